@@ -1,0 +1,3 @@
+pub mod Calendar
+pub mod Classes
+pub mod Records

@@ -1,0 +1,3 @@
+// The day file: its heading, its records, and how they stand in bytes.
+pub mod heading;
+pub mod record;
