@@ -1,0 +1,32 @@
+use mathlib.Core.Path.{_≡_, sym, ap, _∙_}
+use mathlib.Core.Bool.{false, true}
+use Prim.Native.Nat.{ℕ, _+_}
+use native.Mathlib.Omega.{arith}
+use lib.Dec.{leb}
+use Rattle.std.proofs.shelf.Lists.{take-all}
+use Rattle.std.proofs.shelf.Sums.{sumBy-more, sumBy-take-le}
+use Rattle.std.proofs.shelf.Tests.{cond-true, cond-false, le-leb, lt-leb}
+use Rattle.std.specs.declared.option.Option.the-variants.{None, Some}
+use Rattle.std.specs.shelf.Lists.{sum}
+use Rattle.sharing.specs.Limits.{most-weight}
+use Rattle.sharing.proofs.limits.limited_sum.Needs as need
+
+pub loop-weight-again : need.loop-weight-again
+loop-weight-again c =
+    (omega (arith, sumBy-more (λ x. x) (c .args .weights .now) (c .loop-weight .weight-index) 0 (c .loop-weight-test .taken)), omega arith)
+
+-- the weights so far and this one are above the limit, and so is the sum of all
+pub returns-then-weight-total : need.returns-then-weight-total
+returns-then-weight-total c =
+    let ws = c .args .weights .now in
+    let i = c .loop-weight .weight-index in
+    let above : leb (sum ws) most-weight ≡ false =
+    lt-leb (sum ws) most-weight (omega (arith, sumBy-more (λ x. x) ws i 0 (c .loop-weight-test .taken), sumBy-take-le (λ x. x) ws (i + 1))) in
+    sym (cond-false (leb (sum ws) most-weight) (Some (sum ws)) None above)
+
+pub returns : need.returns
+returns c =
+    let ws = c .args .weights .now in
+    let all : c .loop-weight .total ≡ sum ws = c .loop-weight .inv .0 ∙ ap sum (take-all (c .loop-weight .weight-index) ws (c .loop-weight-test .left)) in
+    let fits : leb (sum ws) most-weight ≡ true = le-leb (sum ws) most-weight (omega arith) in
+    ap Some all ∙ sym (cond-true (leb (sum ws) most-weight) (Some (sum ws)) None fits)
