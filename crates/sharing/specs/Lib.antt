@@ -4,3 +4,4 @@ pub mod Fair
 pub mod Running
 pub mod LargestRemainder
 pub mod Signed
+pub mod Choice

@@ -43,7 +43,7 @@ returns-in-Ok g c =
     let fits = c .fits .amount in
     let abs : c .unsigned-abs .result ≡ natAbs z = c .unsigned-abs .ensures .value ∙ ap natAbs (toZ-ofZ w64 z fits) in
     let laid : c .lay-signed .last .shares ≡ map (with-sign-of z) (c .share .last .shares) =
-      c .lay-signed .ensures ∙ ap (λ x. map (with-sign-of x) (c .share .last .shares)) (toZ-ofZ w64 z fits) in
+    c .lay-signed .ensures ∙ ap (λ x. map (with-sign-of x) (c .share .last .shares)) (toZ-ofZ w64 z fits) in
     let both = signed-answers (g .R·Sharing .parts (c .args .rule .now)) z (c .args .weights .now) (c .args .shares .now) (c .unsigned-abs .result) (c .args .magnitudes .now) (c .share .last .shares) (c .lay-signed .last .shares)
-      abs (c .pre) (c .in-Ok .ensures tt .answer) (c .in-Ok .ensures tt .after) laid in
+    abs (c .pre) (c .in-Ok .ensures tt .answer) (c .in-Ok .ensures tt .after) laid in
     record { answer = both .0; after = both .1 }

@@ -1,0 +1,62 @@
+-- What an example asks, and what it is answered.
+use mathlib.Core.Bool.{Bool, true, false, _&&_}
+use mathlib.Core.List.{List, [], _∷_, map}
+use Prim.Native.Nat.{ℕ}
+use lib.Dec.{eqb}
+use lib.IntN.{ℤ, pos, negsuc}
+use lib.ListN.{length}
+use Rattle.std.specs.declared.result.Result.{Result}
+use Rattle.std.specs.declared.result.Result.the-variants.{Ok, Err}
+use Rattle.faults.specs.Numbers.{layer-number, refusal-layer, refusal-number}
+use Rattle.faults.specs.declared.fault.Fault.{Fault}
+use Rattle.sharing.specs.Choice.{rule-parts}
+use Rattle.sharing.specs.Shareable.{share-answer}
+use Rattle.sharing.specs.declared.choice.Rule.{Rule}
+
+-- the numbers that come out, or the number and the layer of the refusal
+pub data Answer : Type 0 where
+  numbers : List ℤ → Answer
+  refused : ℕ → ℕ → Answer
+
+pub data Example : Type 0 where
+  -- an amount shared over weights under a rule
+  sharing : Rule → ℕ → List ℕ → Answer → Example
+
+-- what an example says should come out
+abbrev pub expected : Example → Answer
+expected (sharing rule amount weights answer) = answer
+
+abbrev pub fault-answer : Fault → Answer
+fault-answer f = refused (refusal-number (f .refusal)) (layer-number (refusal-layer (f .refusal)))
+
+abbrev pub parts-answer : Result (Unit {0}) Fault → List ℕ → Answer
+parts-answer (Ok done) parts = numbers (map pos parts)
+parts-answer (Err f) parts = fault-answer f
+
+-- what the definitions give
+abbrev pub defined : Example → Answer
+defined (sharing rule amount weights answer) =
+    parts-answer (share-answer amount weights (length weights)) (rule-parts rule amount weights)
+
+abbrev pub same-number : ℤ → ℤ → Bool
+same-number (pos m) (pos n) = eqb m n
+same-number (pos m) (negsuc n) = false
+same-number (negsuc m) (pos n) = false
+same-number (negsuc m) (negsuc n) = eqb m n
+
+abbrev pub same-numbers : List ℤ → List ℤ → Bool
+same-numbers [] [] = true
+same-numbers [] (y ∷ ys) = false
+same-numbers (x ∷ xs) [] = false
+same-numbers (x ∷ xs) (y ∷ ys) = same-number x y && same-numbers xs ys
+
+abbrev pub same-answer : Answer → Answer → Bool
+same-answer (numbers xs) (numbers ys) = same-numbers xs ys
+same-answer (numbers xs) (refused n l) = false
+same-answer (refused m k) (numbers ys) = false
+same-answer (refused m k) (refused n l) = eqb m n && eqb k l
+
+-- the test of a whole table
+abbrev pub all-right : List Example → Bool
+all-right [] = true
+all-right (x ∷ xs) = same-answer (defined x) (expected x) && all-right xs
