@@ -1,6 +1,7 @@
 // What a rule may be asked to share.
 ghost use mathlib.Core.Path.{_≡_};
 ghost use mathlib.Core.Bool.{_&&_, cond};
+ghost use Prim.Native.Nat.{_+_, _≤_};
 ghost use lib.Dec.{eqb, leb};
 ghost use lib.ListN.{length};
 ghost use Rattle.std.specs.declared.option.Option.the-variants.{None, Some};
@@ -24,13 +25,21 @@ fn is_within(amount: u64, weights: usize, places: usize) -> bool
     places == weights && 1 <= weights && weights <= MOST_PLACES && amount <= MOST_AMOUNT
 }
 
+// Is the sum still within the limit with this weight?
+fn has_room(total: u64, weight: u64) -> bool
+    requires { ⌜ total ≤ most-weight ⌝ }
+    ensures { λ r. ⌜ r ≡ leb (total + weight) most-weight ⌝ }
+{
+    weight <= MOST_WEIGHT - total
+}
+
 // The sum of the weights, where it is not too large.
 fn limited_sum(weights: &[u64]) -> Option<u64>
     ensures { λ r. ⌜ r ≡ cond (leb (sum (now (weights .entry))) most-weight) (Some (sum (now (weights .entry)))) None ⌝ }
 {
     let mut total = 0;
     for weight in weights {
-        if *weight > MOST_WEIGHT - total {
+        if !has_room(total, *weight) {
             return None;
         }
         total += *weight;
