@@ -1,3 +1,4 @@
 pub mod Calendar
 pub mod Classes
+pub mod Marks
 pub mod Records

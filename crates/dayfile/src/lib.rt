@@ -1,3 +1,4 @@
 // The day file: its heading, its records, and how they stand in bytes.
 pub mod heading;
+pub mod mark;
 pub mod record;
