@@ -71,10 +71,10 @@ pub fn decode_end(bytes: &[u8]) -> Result<u16, Fault>
 }
 
 // The account, node and hour that a record names; 0 for those that its kind has none of.
-pub fn place_of(entry: &Record) -> Place
-    ensures { λ r. ⌜ r ≡ place-of (now (entry .entry)) ⌝ }
+pub fn place_of(row: &Record) -> Place
+    ensures { λ r. ⌜ r ≡ place-of (now (row .entry)) ⌝ }
 {
-    match entry {
+    match row {
         Record::Price(price) => Place::new(0, price.node, price.hour),
         Record::Position(position) => Place::new(position.account, position.node, position.hour),
         Record::Interconnection(exchange) => Place::new(0, exchange.node, exchange.hour),

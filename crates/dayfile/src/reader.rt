@@ -1,6 +1,6 @@
 // Hands out the records of a file one by one.
 ghost use mathlib.Core.Path.{_≡_};
-ghost use Prim.Native.Nat.{_≤_};
+ghost use Prim.Native.Nat.{_<_, _≤_};
 ghost use lib.Dec.{eqb};
 ghost use lib.ListN.{length};
 ghost use Rattle.std.specs.Vec.{made};
@@ -20,7 +20,7 @@ pub struct Reader<'a> {
 // The record that the bytes begin with.
 fn first_record(bytes: &[u8]) -> Result<&[u8], Refusal>
     ensures value { λ r. ⌜ lent r ≡ first-record (now (bytes .entry)) ⌝ }
-    ensures within { λ r. ⌜ made r (λ part. length (now part) ≤ length (now (bytes .entry))) ⌝ }
+    ensures within { λ r. ⌜ made r (λ part. (4 ≤ length (now part)) × (length (now part) ≤ length (now (bytes .entry)))) ⌝ }
 {
     let [first, second, ..] = bytes else {
         return Err(Refusal::UnknownMark);
@@ -62,6 +62,7 @@ impl<'a> Reader<'a> {
         ensures file { λ _. ⌜ now (now (self .exit) .file) ≡ now (now (self .entry) .file) ⌝ }
         ensures part { λ r. ⌜ lent r ≡ cut-at (now (now (self .entry) .file)) (now (self .entry) .offset) ⌝ }
         ensures offset { λ _. ⌜ now (self .exit) .offset ≡ past (now (self .entry) .offset) (cut-at (now (now (self .entry) .file)) (now (self .entry) .offset)) ⌝ }
+        ensures moves { λ r. ⌜ made r (λ _. now (self .entry) .offset < now (self .exit) .offset) ⌝ }
     {
         let file = self.file;
         match first_record(&file[self.offset..]) {

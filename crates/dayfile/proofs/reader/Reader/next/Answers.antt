@@ -1,3 +1,4 @@
+use borrow.Author.Needs.{needs}
 use Prim.Native.Nat.{ℕ, _-_}
 use mathlib.Core.Path.{_≡_, refl, ap, _∙_}
 use mathlib.Core.List.{List}
@@ -18,10 +19,10 @@ cut file offset r h = ap (placed-at offset) (h ∙ ap first-record (take-rest fi
 pub returns-in-Ok : need.returns-in-Ok
 returns-in-Ok c =
     let h = cut (c .args .self .now .file .now) (c .args .self .now .offset) _ (c .in-Ok .ensures tt .value) in
-    record { file = refl; part = h; offset = ap (past (c .args .self .now .offset)) h }
+    record { file = refl; part = h; offset = ap (past (c .args .self .now .offset)) h; moves = search needs }
 
 pub returns-in-Err : need.returns-in-Err
 returns-in-Err c =
     let h = cut (c .args .self .now .file .now) (c .args .self .now .offset) _ (c .in-Err .ensures tt .value) in
     let e = c .at-offset .ensures ∙ ap (reading-at (c .args .self .now .offset)) (c .plain .ensures) in
-    record { file = refl; part = ap Err e ∙ h; offset = ap (past (c .args .self .now .offset)) h }
+    record { file = refl; part = ap Err e ∙ h; offset = ap (past (c .args .self .now .offset)) h; moves = tt }
