@@ -1,3 +1,5 @@
 // The day file: its heading, its records, and how they stand in bytes.
+pub mod calendar;
 pub mod heading;
+pub mod mark;
 pub mod record;
