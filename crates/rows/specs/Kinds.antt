@@ -60,56 +60,56 @@ kind-in-range kind = within 1 5 kind
 
 abbrev pub price-terms : Terms Price
 price-terms = record {
-      alike = λ p q. eqb (p .node) (q .node) && eqb (p .hour) (q .hour);
-      in-range = λ p. leb 1 (p .node) && (leb 1 (p .hour) && (price-in-range (p .«day_ahead») && price-in-range (p .«real_time»)));
-      listed = λ heading p. leb (p .node) (heading .nodes) && leb (p .hour) (heading .hours);
-      room = price-room
-    }
+  alike = λ p q. eqb (p .node) (q .node) && eqb (p .hour) (q .hour);
+  in-range = λ p. leb 1 (p .node) && (leb 1 (p .hour) && (price-in-range (p .«day_ahead») && price-in-range (p .«real_time»)));
+  listed = λ heading p. leb (p .node) (heading .nodes) && leb (p .hour) (heading .hours);
+  room = price-room;
+}
 
 abbrev pub position-terms : Terms Position
 position-terms = record {
-      alike = λ p q. eqb (p .account) (q .account) && (eqb (p .node) (q .node) && (eqb (p .hour) (q .hour)
-        && eqb (class-number (p .class)) (class-number (q .class))));
-      in-range = λ p. leb 1 (p .account) && (leb 1 (p .node) && (leb 1 (p .hour)
-        && (energy-in-range (p .«day_ahead») && energy-in-range (p .«real_time»))));
-      listed = λ heading p. leb (p .account) (heading .accounts) && (leb (p .node) (heading .nodes) && leb (p .hour) (heading .hours));
-      room = position-room
-    }
+  alike = λ p q. eqb (p .account) (q .account) && (eqb (p .node) (q .node) && (eqb (p .hour) (q .hour)
+      && eqb (class-number (p .class)) (class-number (q .class))));
+  in-range = λ p. leb 1 (p .account) && (leb 1 (p .node) && (leb 1 (p .hour)
+      && (energy-in-range (p .«day_ahead») && energy-in-range (p .«real_time»))));
+  listed = λ heading p. leb (p .account) (heading .accounts) && (leb (p .node) (heading .nodes) && leb (p .hour) (heading .hours));
+  room = position-room;
+}
 
 abbrev pub interconnection-terms : Terms Interconnection
 interconnection-terms = record {
-      alike = λ p q. eqb (p .interconnection) (q .interconnection) && eqb (p .hour) (q .hour);
-      in-range = λ p. leb 1 (p .interconnection) && (within 1 4 (p .system) && (leb 1 (p .node) && (leb 1 (p .hour)
-        && (energy-in-range (p .«day_ahead_export») && (energy-in-range (p .«day_ahead_import»)
-        && (energy-in-range (p .«real_time_export») && (energy-in-range (p .«real_time_import»)
-        && price-in-range (p .«imbalance_price»))))))));
-      listed = λ heading p. leb (p .interconnection) (heading .interconnections)
-        && (leb (p .node) (heading .nodes) && leb (p .hour) (heading .hours));
-      room = interconnection-room
-    }
+  alike = λ p q. eqb (p .interconnection) (q .interconnection) && eqb (p .hour) (q .hour);
+  in-range = λ p. leb 1 (p .interconnection) && (within 1 4 (p .system) && (leb 1 (p .node) && (leb 1 (p .hour)
+      && (energy-in-range (p .«day_ahead_export») && (energy-in-range (p .«day_ahead_import»)
+      && (energy-in-range (p .«real_time_export») && (energy-in-range (p .«real_time_import»)
+      && price-in-range (p .«imbalance_price»))))))));
+  listed = λ heading p. leb (p .interconnection) (heading .interconnections)
+      && (leb (p .node) (heading .nodes) && leb (p .hour) (heading .hours));
+  room = interconnection-room;
+}
 
 abbrev pub reserve-terms : Terms Reserve
 reserve-terms = record {
-      alike = λ p q. eqb (p .account) (q .account) && (eqb (p .unit) (q .unit) && (eqb (p .kind) (q .kind) && eqb (p .hour) (q .hour)));
-      in-range = λ p. leb 1 (p .account) && (unit-in-range (p .unit) && (kind-in-range (p .kind) && (leb 1 (p .hour)
-        && (reserve-price-in-range (p .«day_ahead_price») && (energy-in-range (p .«day_ahead»)
-        && (reserve-price-in-range (p .«real_time_price») && energy-in-range (p .«real_time»)))))));
-      listed = λ heading p. leb (p .account) (heading .accounts) && leb (p .hour) (heading .hours);
-      room = reserve-room
-    }
+  alike = λ p q. eqb (p .account) (q .account) && (eqb (p .unit) (q .unit) && (eqb (p .kind) (q .kind) && eqb (p .hour) (q .hour)));
+  in-range = λ p. leb 1 (p .account) && (unit-in-range (p .unit) && (kind-in-range (p .kind) && (leb 1 (p .hour)
+      && (reserve-price-in-range (p .«day_ahead_price») && (energy-in-range (p .«day_ahead»)
+      && (reserve-price-in-range (p .«real_time_price») && energy-in-range (p .«real_time»)))))));
+  listed = λ heading p. leb (p .account) (heading .accounts) && leb (p .hour) (heading .hours);
+  room = reserve-room;
+}
 
 abbrev pub failure-terms : Terms Failure
 failure-terms = record {
-      alike = λ p q. eqb (p .unit) (q .unit) && eqb (p .kind) (q .kind);
-      in-range = λ p. unit-in-range (p .unit) && kind-in-range (p .kind);
-      listed = λ _ _. true;
-      room = failure-room
-    }
+  alike = λ p q. eqb (p .unit) (q .unit) && eqb (p .kind) (q .kind);
+  in-range = λ p. unit-in-range (p .unit) && kind-in-range (p .kind);
+  listed = λ _ _. true;
+  room = failure-room;
+}
 
 abbrev pub fine-terms : Terms Fine
 fine-terms = record {
-      alike = λ p q. eqb (p .identifier) (q .identifier);
-      in-range = λ p. leb 1 (p .account) && fine-in-range (p .centavos);
-      listed = λ heading p. leb (p .account) (heading .accounts);
-      room = fine-room
-    }
+  alike = λ p q. eqb (p .identifier) (q .identifier);
+  in-range = λ p. leb 1 (p .account) && fine-in-range (p .centavos);
+  listed = λ heading p. leb (p .account) (heading .accounts);
+  room = fine-room;
+}

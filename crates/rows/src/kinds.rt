@@ -12,16 +12,22 @@ use dayfile::record::Reserve;
 
 // How many records of each kind a book holds at most.
 pub const PRICE_ROOM: usize = 400;
+
 pub const POSITION_ROOM: usize = 1000;
+
 pub const INTERCONNECTION_ROOM: usize = 200;
+
 pub const RESERVE_ROOM: usize = 400;
+
 pub const FAILURE_ROOM: usize = 320;
+
 pub const FINE_ROOM: usize = 50;
 
 // The largest quantity of energy in a record, in kWh.
 pub const ENERGY_LIMIT: u32 = 2_000_000;
 // The largest price, in centavos per MWh; a price that may be negative is at least the same below 0.
 pub const PRICE_LIMIT: i32 = 10_000_000;
+
 pub const RESERVE_PRICE_LIMIT: u32 = 10_000_000;
 // The largest fine, in centavos.
 pub const FINE_LIMIT: u64 = 1_000_000_000_000;

@@ -13,8 +13,8 @@ returns-then-is-some g c =
     let h = c .args .heading .now in
     let j = c .loop-i .i - 0 in
     sym (c .loop-i .inv ∙ taken-stops t h _ _ j _ (omega arith) (c .loop-i-test .taken)
-      (sym (c .if-is-some .ensures tt ∙ ap isSome (c .refusal-after .ensures)
-        ∙ ap (λ x. isSome (row-refusal t h (take j (c .args .rows .now)) x)) (c .index-rows-i .is))))
+    (sym (c .if-is-some .ensures tt ∙ ap isSome (c .refusal-after .ensures)
+    ∙ ap (λ x. isSome (row-refusal t h (take j (c .args .rows .now)) x)) (c .index-rows-i .is))))
 
 pub loop-i-again : need.loop-i-again
 loop-i-again g c =
@@ -22,8 +22,8 @@ loop-i-again g c =
     let h = c .args .heading .now in
     let j = c .loop-i .i - 0 in
     c .loop-i .inv ∙ taken-more t h _ _ j _ (omega arith) (c .loop-i-test .taken)
-      (sym (c .if-is-some .ensures tt ∙ ap isSome (c .refusal-after .ensures)
-        ∙ ap (λ x. isSome (row-refusal t h (take j (c .args .rows .now)) x)) (c .index-rows-i .is)))
+    (sym (c .if-is-some .ensures tt ∙ ap isSome (c .refusal-after .ensures)
+    ∙ ap (λ x. isSome (row-refusal t h (take j (c .args .rows .now)) x)) (c .index-rows-i .is)))
 
 pub returns : need.returns
 returns g c =

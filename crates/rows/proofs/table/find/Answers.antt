@@ -8,15 +8,15 @@ returns-then-is-alike g c =
     let test = g .T·Row .terms .alike (c .args .row .now) in
     record {
       value = sym (place-found test _ _ _ (c .loop-i-test .taken) (c .loop-i .inv)
-        (sym (c .if-is-alike .ensures tt ∙ ap test (c .index-rows-i .is))));
-      within = search needs
+          (sym (c .if-is-alike .ensures tt ∙ ap test (c .index-rows-i .is))));
+      within = search needs;
     }
 
 pub loop-i-again : need.loop-i-again
 loop-i-again g c =
     let test = g .T·Row .terms .alike (c .args .row .now) in
     place-none-more test _ _ _ (c .loop-i-test .taken) (c .loop-i .inv)
-      (sym (c .if-is-alike .ensures tt ∙ ap test (c .index-rows-i .is)))
+    (sym (c .if-is-alike .ensures tt ∙ ap test (c .index-rows-i .is)))
 
 pub returns : need.returns
 returns g c = record { value = sym (place-none-all (g .T·Row .terms .alike (c .args .row .now)) _ _ (c .loop-i-test .left) (c .loop-i .inv)); within = tt }

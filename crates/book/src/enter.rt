@@ -1,0 +1,121 @@
+// Making a book, and entering records into it.
+ghost use mathlib.Core.Path.{_≡_};
+ghost use Prim.Native.Nat.{_≤_};
+ghost use Rattle.std.specs.Of.Vec.{vec-cap, vec-items};
+ghost use Rattle.std.specs.Vec.{made};
+ghost use Rattle.rows.specs.Tables.{grown, row-refusal, verdict};
+ghost use Rattle.book.specs.Books.{admission, answer, entered, held, new-heading, no-records, record-place};
+use crate::book::Book;
+use dayfile::heading::Heading;
+use dayfile::record::Record;
+use faults::fault::Fault;
+use faults::fault::Place;
+use faults::refusal::Refusal;
+use rows::kinds::FAILURE_ROOM;
+use rows::kinds::FINE_ROOM;
+use rows::kinds::FailureRow;
+use rows::kinds::FineRow;
+use rows::kinds::INTERCONNECTION_ROOM;
+use rows::kinds::InterconnectionRow;
+use rows::kinds::POSITION_ROOM;
+use rows::kinds::PRICE_ROOM;
+use rows::kinds::PositionRow;
+use rows::kinds::PriceRow;
+use rows::kinds::RESERVE_ROOM;
+use rows::kinds::ReserveRow;
+use rows::row::Row;
+use rows::table::refusal_after;
+use std::alloc::AllocError;
+use std::alloc::Global;
+
+// Adds `row` at the end, unless it is refused.
+fn enter_row<T: Row + Drop>(heading: &Heading, rows: &mut Vec<T>, row: T) -> Result<(), Refusal>
+    requires { ⌜ terms .room ≤ vec-cap (now rows) ⌝ }
+    ensures value { λ r. ⌜ r ≡ verdict (row-refusal terms (now (heading .entry)) (vec-items (now (rows .entry))) row) ⌝ }
+    ensures items { λ _. ⌜ vec-items (now (rows .exit)) ≡ grown (row-refusal terms (now (heading .entry)) (vec-items (now (rows .entry))) row) (vec-items (now (rows .entry))) row ⌝ }
+    ensures capacity { λ _. ⌜ vec-cap (now (rows .exit)) ≡ vec-cap (now (rows .entry)) ⌝ }
+{
+    if let Some(refusal) = refusal_after(heading, rows.as_slice(), &row) {
+        return Err(refusal);
+    }
+    rows.push_reserved(row);
+    Ok(())
+}
+
+fn place_of(item: &Record) -> Place
+    ensures { λ r. ⌜ r ≡ record-place (now (item .entry)) ⌝ }
+{
+    match item {
+        Record::Price(p) => Place::new(0, p.node, p.hour),
+        Record::Position(p) => Place::new(p.account, p.node, p.hour),
+        Record::Interconnection(p) => Place::new(0, p.node, p.hour),
+        Record::Reserve(p) => Place::new(p.account, 0, p.hour),
+        Record::Failure(_) => Place::none(),
+        Record::Fine(p) => Place::new(p.account, 0, 0),
+    }
+}
+
+impl Book {
+    // An empty book. This is the only call that asks for memory.
+    pub fn new(heap: Global) -> Result<Book, AllocError>
+        ensures { λ r. ⌜ made r (λ book. held book ≡ no-records new-heading) ⌝ }
+    {
+        let heading = Heading {
+            year: 2016,
+            month: 1,
+            day: 1,
+            hours: 24,
+            accounts: 1,
+            nodes: 1,
+            interconnections: 0,
+        };
+        let prices = Vec::with_capacity(heap, PRICE_ROOM)?;
+        let positions = Vec::with_capacity(heap, POSITION_ROOM)?;
+        let interconnections = Vec::with_capacity(heap, INTERCONNECTION_ROOM)?;
+        let reserves = Vec::with_capacity(heap, RESERVE_ROOM)?;
+        let failures = Vec::with_capacity(heap, FAILURE_ROOM)?;
+        let fines = Vec::with_capacity(heap, FINE_ROOM)?;
+        Ok(Book {
+            heading,
+            prices,
+            positions,
+            interconnections,
+            reserves,
+            failures,
+            fines,
+        })
+    }
+
+    // Another heading, and no record of any kind.
+    pub fn clear(&mut self, heading: Heading)
+        ensures { λ _. ⌜ held (now (self .exit)) ≡ no-records heading ⌝ }
+    {
+        self.heading = heading;
+        self.prices.clear();
+        self.positions.clear();
+        self.interconnections.clear();
+        self.reserves.clear();
+        self.failures.clear();
+        self.fines.clear();
+    }
+
+    // Enters a record, unless there is a reason against it.
+    pub fn enter_record(&mut self, item: Record) -> Result<(), Fault>
+        ensures value { λ r. ⌜ r ≡ answer (admission (held (now (self .entry))) item) ⌝ }
+        ensures after { λ _. ⌜ held (now (self .exit)) ≡ entered (held (now (self .entry))) (admission (held (now (self .entry))) item) ⌝ }
+    {
+        let heading = self.heading;
+        let verdict = match item {
+            Record::Price(p) => enter_row(&heading, &mut self.prices, p),
+            Record::Position(p) => enter_row(&heading, &mut self.positions, p),
+            Record::Interconnection(p) => enter_row(&heading, &mut self.interconnections, p),
+            Record::Reserve(p) => enter_row(&heading, &mut self.reserves, p),
+            Record::Failure(p) => enter_row(&heading, &mut self.failures, p),
+            Record::Fine(p) => enter_row(&heading, &mut self.fines, p),
+        };
+        match verdict {
+            Ok(()) => Ok(()),
+            Err(refusal) => Err(Fault::new(refusal, place_of(&item))),
+        }
+    }
+}
