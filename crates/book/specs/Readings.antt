@@ -17,6 +17,7 @@ use Rattle.faults.specs.declared.refusal.Refusal.the-variants.{OutOfRange, Abov
 use Rattle.dayfile.specs.Classes.{class-number, class-of}
 use Rattle.dayfile.specs.Records.{Records}
 use Rattle.dayfile.specs.declared.heading.Heading.{Heading}
+use Rattle.dayfile.specs.declared.record.Class.{Class}
 use Rattle.dayfile.specs.declared.record.Class.the-variants.{Generation}
 use Rattle.dayfile.specs.declared.record.Position.{Position}
 use Rattle.rows.specs.Kinds.{energy-in-range}
@@ -24,15 +25,19 @@ use Rattle.rows.specs.Tables.{first-place}
 use Rattle.book.specs.Books.{unless}
 use Rattle.book.specs.declared.reading.Reading.{Reading}
 
--- is this the position of the account at the node in the hour, of the class with the number?
-abbrev pub is-position-of : ℕ → ℕ → ℕ → ℕ → Position → Bool
+-- is this the position of the class that the account has at the node in the hour?
+abbrev pub is-position-of : ℕ → ℕ → ℕ → Class → Position → Bool
 is-position-of account node hour class p =
-    eqb account (p .account) && (eqb node (p .node) && (eqb hour (p .hour) && eqb class (class-number (p .class))))
+    eqb account (p .account) && (eqb node (p .node) && (eqb hour (p .hour) && eqb (class-number class) (class-number (p .class))))
+
+abbrev pub read-in-class : List Position → Reading → Option Class → Option ℕ
+read-in-class positions reading None = None
+read-in-class positions reading (Some class) =
+    first-place (is-position-of (reading .account) (reading .node) (reading .hour) class) positions
 
 -- where the position stands that a reading is of
 abbrev pub read-position : List Position → Reading → Option ℕ
-read-position positions reading =
-    first-place (is-position-of (reading .account) (reading .node) (reading .hour) (reading .class)) positions
+read-position positions reading = read-in-class positions reading (class-of (reading .class))
 
 -- the position with another reading
 abbrev pub reread : Position → ℕ → Position
@@ -66,25 +71,22 @@ abbrev pub reading-listed : Heading → Reading → Bool
 reading-listed heading reading =
     leb (reading .account) (heading .accounts) && (leb (reading .node) (heading .nodes) && leb (reading .hour) (heading .hours))
 
+-- the first of two reasons
+abbrev pub first-reason : Option Refusal → Option Refusal → Option Refusal
+first-reason (Some reason) other = Some reason
+first-reason None other = other
+
 -- what the heading alone has against a reading
 abbrev pub reading-refusal : Heading → Reading → Option Refusal
 reading-refusal heading reading =
     cond (not (reading-in-range reading)) (Some OutOfRange)
     (cond (not (reading-listed heading reading)) (Some AboveHeading) None)
 
--- a position found, or that there is none
-abbrev pub position-refusal : Option ℕ → Option Refusal
-position-refusal (Some i) = None
-position-refusal None = Some NoPosition
-
-abbrev pub first-reason : Option Refusal → Option Refusal → Option Refusal
-first-reason (Some reason) other = Some reason
-first-reason None other = other
-
 -- why a reading cannot be corrected, if so
 abbrev pub correction-refusal : Records → Reading → Option Refusal
 correction-refusal b reading =
-    first-reason (reading-refusal (b .heading) reading) (position-refusal (read-position (b .positions) reading))
+    first-reason (reading-refusal (b .heading) reading)
+    (cond (isSome (read-position (b .positions) reading)) None (Some NoPosition))
 
 -- the reading if it can be put in the place of the one held, or why not
 abbrev pub correction : Records → Reading → Result Reading Fault

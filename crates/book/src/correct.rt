@@ -4,10 +4,9 @@ ghost use Prim.Native.Nat.{_<_};
 ghost use lib.ListN.{length};
 ghost use Rattle.std.specs.Options.{isSome};
 ghost use Rattle.std.specs.Slices.{found};
-ghost use Rattle.dayfile.specs.Classes.{class-number};
 ghost use Rattle.rows.specs.Tables.{first-place};
 ghost use Rattle.book.specs.Books.{answer, held};
-ghost use Rattle.book.specs.Readings.{corrected, correction, is-position-of, read-position, reading-in-range, reading-listed, reading-place, reading-refusal, reread-at};
+ghost use Rattle.book.specs.Readings.{corrected, correction, is-position-of, read-position, reading-in-range, reading-listed, reading-place, reading-refusal, reread-at, with-reading};
 use crate::book::Book;
 use crate::reading::Reading;
 use dayfile::heading::Heading;
@@ -28,7 +27,7 @@ pub fn find_position(
     hour: u8,
     class: Class,
 ) -> Option<usize>
-    ensures value { λ r. ⌜ r ≡ first-place (is-position-of account node hour (class-number class)) (now (positions .entry)) ⌝ }
+    ensures value { λ r. ⌜ r ≡ first-place (is-position-of account node hour class) (now (positions .entry)) ⌝ }
     ensures within { λ r. ⌜ found r (λ i. i < length (now (positions .entry))) ⌝ }
 {
     let key = Position {
@@ -111,6 +110,14 @@ impl Reading {
 }
 
 impl Book {
+    // Puts the reading into its position, if there is one, and says whether there was.
+    fn put_reading(&mut self, reading: Reading) -> bool
+        ensures value { λ r. ⌜ r ≡ isSome (read-position (held (now (self .entry)) .positions) reading) ⌝ }
+        ensures after { λ _. ⌜ held (now (self .exit)) ≡ with-reading (held (now (self .entry))) reading ⌝ }
+    {
+        replace_reading(self.positions.as_mut_slice(), reading)
+    }
+
     // Puts the reading in the place of the one held, unless there is a reason against it.
     pub fn correct(&mut self, reading: Reading) -> Result<(), Fault>
         ensures value { λ r. ⌜ r ≡ answer (correction (held (now (self .entry))) reading) ⌝ }
@@ -119,7 +126,7 @@ impl Book {
         if let Some(refusal) = reading.refusal_under(&self.heading) {
             return Err(Fault::new(refusal, reading.place()));
         }
-        if replace_reading(self.positions.as_mut_slice(), reading) {
+        if self.put_reading(reading) {
             Ok(())
         } else {
             Err(Fault::new(Refusal::NoPosition, reading.place()))

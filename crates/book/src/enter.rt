@@ -4,7 +4,7 @@ ghost use Prim.Native.Nat.{_≤_};
 ghost use Rattle.std.specs.Of.Vec.{vec-cap, vec-items};
 ghost use Rattle.std.specs.Vec.{made};
 ghost use Rattle.rows.specs.Tables.{grown, row-refusal, verdict};
-ghost use Rattle.book.specs.Books.{admission, answer, entered, held, new-heading, no-records, record-place};
+ghost use Rattle.book.specs.Books.{admission, answer, entered, held, new-heading, no-records, record-place, record-refusal, taken};
 use crate::book::Book;
 use dayfile::heading::Heading;
 use dayfile::record::Record;
@@ -99,21 +99,28 @@ impl Book {
         self.fines.clear();
     }
 
-    // Enters a record, unless there is a reason against it.
-    pub fn enter_record(&mut self, item: Record) -> Result<(), Fault>
-        ensures value { λ r. ⌜ r ≡ answer (admission (held (now (self .entry))) item) ⌝ }
-        ensures after { λ _. ⌜ held (now (self .exit)) ≡ entered (held (now (self .entry))) (admission (held (now (self .entry))) item) ⌝ }
+    // Adds the record at the end of its table, unless it is refused.
+    fn take(&mut self, item: Record) -> Result<(), Refusal>
+        ensures value { λ r. ⌜ r ≡ verdict (record-refusal (held (now (self .entry))) item) ⌝ }
+        ensures after { λ _. ⌜ held (now (self .exit)) ≡ taken (held (now (self .entry))) item (record-refusal (held (now (self .entry))) item) ⌝ }
     {
         let heading = self.heading;
-        let verdict = match item {
+        match item {
             Record::Price(p) => enter_row(&heading, &mut self.prices, p),
             Record::Position(p) => enter_row(&heading, &mut self.positions, p),
             Record::Interconnection(p) => enter_row(&heading, &mut self.interconnections, p),
             Record::Reserve(p) => enter_row(&heading, &mut self.reserves, p),
             Record::Failure(p) => enter_row(&heading, &mut self.failures, p),
             Record::Fine(p) => enter_row(&heading, &mut self.fines, p),
-        };
-        match verdict {
+        }
+    }
+
+    // Enters a record, unless there is a reason against it.
+    pub fn enter_record(&mut self, item: Record) -> Result<(), Fault>
+        ensures value { λ r. ⌜ r ≡ answer (admission (held (now (self .entry))) item) ⌝ }
+        ensures after { λ _. ⌜ held (now (self .exit)) ≡ entered (held (now (self .entry))) (admission (held (now (self .entry))) item) ⌝ }
+    {
+        match self.take(item) {
             Ok(()) => Ok(()),
             Err(refusal) => Err(Fault::new(refusal, place_of(&item))),
         }
