@@ -1,5 +1,6 @@
 // The two letters that a record begins with, and the length that they give it.
 ghost use mathlib.Core.Path.{_≡_};
+ghost use Prim.Native.Nat.{_≤_};
 ghost use Rattle.dayfile.specs.Marks.{mark-length, mark-letters, mark-of};
 
 #[derive(Clone, Copy, PartialEq, Eq)]
@@ -49,7 +50,8 @@ impl Mark {
 
     // The length of a record with this mark, the mark included.
     pub fn length(self) -> usize
-        ensures { λ r. ⌜ r ≡ mark-length self ⌝ }
+        ensures value { λ r. ⌜ r ≡ mark-length self ⌝ }
+        ensures bound { λ r. ⌜ 4 ≤ r ⌝ }
     {
         match self {
             Mark::Day => 10,
