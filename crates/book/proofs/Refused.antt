@@ -11,11 +11,12 @@ use Rattle.std.specs.declared.result.Result.the-variants.{Ok, Err}
 use Rattle.faults.specs.Places.{fault-of}
 use Rattle.faults.specs.declared.refusal.Refusal.{Refusal}
 use Rattle.faults.specs.declared.refusal.Refusal.the-variants.{NoPosition}
+use Rattle.dayfile.specs.Decoded.{place-of}
 use Rattle.dayfile.specs.Records.{Records}
 use Rattle.dayfile.specs.declared.record.Record.{Record}
 use Rattle.dayfile.specs.declared.record.Record.the-variants.{Price, Position, Interconnection, Reserve, Failure, Fine}
 use Rattle.rows.specs.Tables.{verdict}
-use Rattle.book.specs.Books.{admission, record-place, record-refusal, taken, unless}
+use Rattle.book.specs.Books.{admission, record-refusal, taken, unless}
 use Rattle.book.specs.Readings.{correction, first-reason, read-position, reading-place, reading-refusal, reread-at, with-reading}
 use Rattle.book.specs.declared.reading.Reading.{Reading}
 use Rattle.book.proofs.Held.{same-records}
@@ -33,10 +34,10 @@ is-reason None reason e = let z : _≡_ {A = ℕ} 0 1 = cc in absurd (omega arit
 is-reason (Some r) reason e = cc
 
 pub refused-entry : (b : Records) (x : Record) (reason : Refusal) → Err reason ≡ verdict (record-refusal b x)
-    → (admission b x ≡ Err (fault-of reason (record-place x))) × (taken b x (record-refusal b x) ≡ b)
+    → (admission b x ≡ Err (fault-of reason (place-of x))) × (taken b x (record-refusal b x) ≡ b)
 refused-entry b x reason e =
     let o = is-reason (record-refusal b x) reason e in
-    (ap (λ r. unless r (record-place x) x) o, ap (taken b x) o ∙ untaken b x reason)
+    (ap (λ r. unless r (place-of x) x) o, ap (taken b x) o ∙ untaken b x reason)
 
 none-from : (o : Option ℕ) → isSome o ≡ false → o ≡ None
 none-from None e = refl

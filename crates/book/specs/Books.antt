@@ -1,16 +1,17 @@
 -- What a book holds, and what the calls make of it.
 use Prim.Native.Nat.{ℕ, _+_}
-use mathlib.Core.List.{[]}
+use mathlib.Core.List.{List, []}
 use lib.ListN.{length}
 use Rattle.std.specs.Of.Vec.{vec-items}
 use Rattle.std.specs.declared.option.Option.{Option}
 use Rattle.std.specs.declared.option.Option.the-variants.{Some, None}
 use Rattle.std.specs.declared.result.Result.{Result}
 use Rattle.std.specs.declared.result.Result.the-variants.{Ok, Err}
-use Rattle.faults.specs.Places.{at, fault-of, nowhere}
+use Rattle.faults.specs.Places.{fault-of}
 use Rattle.faults.specs.declared.fault.Fault.{Fault}
 use Rattle.faults.specs.declared.fault.Place.{Place}
 use Rattle.faults.specs.declared.refusal.Refusal.{Refusal}
+use Rattle.dayfile.specs.Decoded.{and-then, decoded-record, place-of}
 use Rattle.dayfile.specs.Records.{Records}
 use Rattle.dayfile.specs.declared.heading.Heading.{Heading}
 use Rattle.dayfile.specs.declared.record.Record.{Record}
@@ -64,15 +65,6 @@ record-count b =
     length (b .prices) + (length (b .positions) + (length (b .interconnections)
     + (length (b .reserves) + (length (b .failures) + length (b .fines)))))
 
--- the account, node and hour that a record names; 0 for what its kind has not
-abbrev pub record-place : Record → Place
-record-place (Price p) = at 0 (p .node) (p .hour)
-record-place (Position p) = at (p .account) (p .node) (p .hour)
-record-place (Interconnection p) = at 0 (p .node) (p .hour)
-record-place (Reserve p) = at (p .account) 0 (p .hour)
-record-place (Failure p) = nowhere
-record-place (Fine p) = at (p .account) 0 0
-
 -- why a record cannot be entered, if so
 abbrev pub record-refusal : Records → Record → Option Refusal
 record-refusal b (Price p) = row-refusal price-terms (b .heading) (b .prices) p
@@ -102,17 +94,16 @@ unless (Some reason) place x = Err (fault-of reason place)
 
 -- the record if it can be entered, or why not
 abbrev pub admission : Records → Record → Result Record Fault
-admission b x = unless (record-refusal b x) (record-place x) x
+admission b x = unless (record-refusal b x) (place-of x) x
 
 -- what a call answers that found this
 abbrev pub answer : {X : Type 0} → Result X Fault → Result (Unit {0}) Fault
 answer (Ok x) = Ok tt
 answer (Err f) = Err f
 
--- the first fault of two steps, the second taken where the first found none
-abbrev pub and-then : {X Y : Type 0} → Result X Fault → (X → Result Y Fault) → Result Y Fault
-and-then (Ok x) next = next x
-and-then (Err f) next = Err f
+-- the record that the bytes say if it can be entered, or the first fault
+abbrev pub admitted : Records → List ℕ → Result Record Fault
+admitted b bytes = and-then (decoded-record bytes) (admission b)
 
 -- the records after a record was entered or refused
 abbrev pub entered : Records → Result Record Fault → Records

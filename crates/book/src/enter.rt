@@ -3,13 +3,16 @@ ghost use mathlib.Core.Path.{_≡_};
 ghost use Prim.Native.Nat.{_≤_};
 ghost use Rattle.std.specs.Of.Vec.{vec-cap, vec-items};
 ghost use Rattle.std.specs.Vec.{made};
+ghost use Rattle.dayfile.specs.Decoded.{decoded-heading};
 ghost use Rattle.rows.specs.Tables.{grown, row-refusal, verdict};
-ghost use Rattle.book.specs.Books.{admission, answer, entered, held, new-heading, no-records, record-place, record-refusal, taken};
+ghost use Rattle.book.specs.Books.{admission, admitted, answer, entered, held, new-heading, no-records, opened, record-refusal, taken};
 use crate::book::Book;
+use dayfile::decode::decode_heading;
+use dayfile::decode::decode_record;
+use dayfile::decode::place_of;
 use dayfile::heading::Heading;
 use dayfile::record::Record;
 use faults::fault::Fault;
-use faults::fault::Place;
 use faults::refusal::Refusal;
 use rows::kinds::FAILURE_ROOM;
 use rows::kinds::FINE_ROOM;
@@ -40,19 +43,6 @@ fn enter_row<T: Row + Drop>(heading: &Heading, rows: &mut Vec<T>, row: T) -> Res
     }
     rows.push_reserved(row);
     Ok(())
-}
-
-fn place_of(item: &Record) -> Place
-    ensures { λ r. ⌜ r ≡ record-place (now (item .entry)) ⌝ }
-{
-    match item {
-        Record::Price(p) => Place::new(0, p.node, p.hour),
-        Record::Position(p) => Place::new(p.account, p.node, p.hour),
-        Record::Interconnection(p) => Place::new(0, p.node, p.hour),
-        Record::Reserve(p) => Place::new(p.account, 0, p.hour),
-        Record::Failure(_) => Place::none(),
-        Record::Fine(p) => Place::new(p.account, 0, 0),
-    }
 }
 
 impl Book {
@@ -123,6 +113,31 @@ impl Book {
         match self.take(item) {
             Ok(()) => Ok(()),
             Err(refusal) => Err(Fault::new(refusal, place_of(&item))),
+        }
+    }
+
+    // Begins a day with the heading that the bytes say, and no record; or leaves all as it is.
+    pub fn open(&mut self, bytes: &[u8]) -> Result<(), Fault>
+        ensures value { λ r. ⌜ r ≡ answer (decoded-heading (now (bytes .entry))) ⌝ }
+        ensures after { λ _. ⌜ held (now (self .exit)) ≡ opened (held (now (self .entry))) (decoded-heading (now (bytes .entry))) ⌝ }
+    {
+        match decode_heading(bytes) {
+            Ok(heading) => {
+                self.clear(heading);
+                Ok(())
+            }
+            Err(fault) => Err(fault),
+        }
+    }
+
+    // Enters the record that the bytes say, unless there is a reason against it.
+    pub fn enter(&mut self, bytes: &[u8]) -> Result<(), Fault>
+        ensures value { λ r. ⌜ r ≡ answer (admitted (held (now (self .entry))) (now (bytes .entry))) ⌝ }
+        ensures after { λ _. ⌜ held (now (self .exit)) ≡ entered (held (now (self .entry))) (admitted (held (now (self .entry))) (now (bytes .entry))) ⌝ }
+    {
+        match decode_record(bytes) {
+            Ok(item) => self.enter_record(item),
+            Err(fault) => Err(fault),
         }
     }
 }

@@ -8,9 +8,11 @@ ghost use Rattle.rows.specs.Tables.{first-place};
 ghost use Rattle.book.specs.Books.{held};
 ghost use Rattle.book.specs.Prices.{first-unpriced, first-unpriced-among, has-price, interconnection-place, is-price-of, position-place};
 use crate::book::Book;
+use dayfile::decode::place_of;
 use dayfile::record::Interconnection;
 use dayfile::record::Position;
 use dayfile::record::Price;
+use dayfile::record::Record;
 use faults::fault::Place;
 use rows::kinds::PriceRow;
 use rows::table::find;
@@ -47,7 +49,7 @@ impl Priced for Position as PositionPriced {
     ghost place = { position-place };
 
     fn place(&self) -> Place {
-        Place::new(self.account, self.node, self.hour)
+        place_of(&Record::Position(*self))
     }
 }
 
@@ -55,7 +57,7 @@ impl Priced for Interconnection as InterconnectionPriced {
     ghost place = { interconnection-place };
 
     fn place(&self) -> Place {
-        Place::new(0, self.node, self.hour)
+        place_of(&Record::Interconnection(*self))
     }
 }
 

@@ -72,3 +72,15 @@ impl Book {
         same_heading(*heading, self.heading) && counts.is_same(&self.counts()) && self.is_sound()
     }
 }
+
+// What keeps a book sound.
+pub fn soundness_stands() -> u8
+    ensures opened { λ _. ⌜ Opened-is-sound ⌝ }
+    ensures entered { λ _. ⌜ Entering-keeps-sound ⌝ }
+    ensures exactly { λ _. ⌜ Sound-with-record ⌝ }
+    ensures corrected { λ _. ⌜ Correcting-keeps-sound ⌝ }
+    ensures own { λ _. ⌜ Sound-is-of-its-day ⌝ }
+    ensures told { λ _. ⌜ Day-tells-heading-and-counts ⌝ }
+{
+    0
+}

@@ -1,2 +1,3 @@
+pub mod Like
 pub mod Places
 pub mod Taken
