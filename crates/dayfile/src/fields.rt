@@ -1,9 +1,9 @@
 // The fields of each kind of record, taken apart. Every function here is given a record of the length that its mark has.
 ghost use mathlib.Core.Path.{_≡_};
-ghost use Prim.Native.Nat.{_≤_};
-ghost use lib.ListN.{length};
+ghost use Prim.Native.Nat.{_+_, _≤_};
+ghost use lib.ListN.{drop, length};
 ghost use Rattle.dayfile.specs.Decoded.{position-or-fault};
-ghost use Rattle.dayfile.specs.Fields.{failure-in, fine-in, four-bytes, heading-in, interconnection-in, price-in, reserve-in, two-bytes};
+ghost use Rattle.dayfile.specs.Fields.{failure-in, fine-in, four-bytes, heading-in, interconnection-in, price-in, reserve-in, signed-four-bytes, two-bytes};
 use crate::heading::Heading;
 use crate::record::Class;
 use crate::record::Failure;
@@ -16,23 +16,40 @@ use faults::fault::Fault;
 use faults::fault::Place;
 use faults::refusal::Refusal;
 
+// The number in the first four bytes, and the bytes after them.
+fn number(bytes: &[u8]) -> (u32, &[u8])
+    requires { ⌜ 4 ≤ length (now bytes) ⌝ }
+    ensures value { λ r. ⌜ r .0 ≡ four-bytes (now (bytes .entry)) 0 ⌝ }
+    ensures rest { λ r. ⌜ now (r .1) ≡ drop 4 (now (bytes .entry)) ⌝ }
+    ensures left { λ r. ⌜ length (now (r .1)) + 4 ≡ length (now (bytes .entry)) ⌝ }
+{
+    let [b3, b2, b1, b0, rest @ ..] = bytes else {
+        unreachable()
+    };
+    (u32::from_be_bytes([*b3, *b2, *b1, *b0]), rest)
+}
+
+// The same of a signed number.
+fn signed_number(bytes: &[u8]) -> (i32, &[u8])
+    requires { ⌜ 4 ≤ length (now bytes) ⌝ }
+    ensures value { λ r. ⌜ r .0 ≡ signed-four-bytes (now (bytes .entry)) 0 ⌝ }
+    ensures rest { λ r. ⌜ now (r .1) ≡ drop 4 (now (bytes .entry)) ⌝ }
+    ensures left { λ r. ⌜ length (now (r .1)) + 4 ≡ length (now (bytes .entry)) ⌝ }
+{
+    let [b3, b2, b1, b0, rest @ ..] = bytes else {
+        unreachable()
+    };
+    (i32::from_be_bytes([*b3, *b2, *b1, *b0]), rest)
+}
+
 pub fn heading(bytes: &[u8]) -> Option<Heading>
     requires { ⌜ length (now bytes) ≡ 10 ⌝ }
     ensures { λ r. ⌜ r ≡ heading-in (now (bytes .entry)) ⌝ }
 {
-    let [
-        _,
-        _,
-        y1,
-        y0,
-        month,
-        day,
-        hours,
-        accounts,
-        nodes,
-        interconnections,
-    ] = bytes
-    else {
+    let [_, _, y1, y0, month, day, rest @ ..] = bytes else {
+        unreachable()
+    };
+    let [hours, accounts, nodes, interconnections] = rest else {
         unreachable()
     };
     let year = u16::from_be_bytes([*y1, *y0]);
@@ -51,14 +68,16 @@ pub fn price(bytes: &[u8]) -> Price
     requires { ⌜ length (now bytes) ≡ 12 ⌝ }
     ensures { λ r. ⌜ r ≡ price-in (now (bytes .entry)) ⌝ }
 {
-    let [_, _, node, hour, a3, a2, a1, a0, r3, r2, r1, r0] = bytes else {
+    let [_, _, node, hour, rest @ ..] = bytes else {
         unreachable()
     };
+    let (day_ahead, rest) = signed_number(rest);
+    let (real_time, _) = signed_number(rest);
     Price {
         node: *node,
         hour: *hour,
-        day_ahead: i32::from_be_bytes([*a3, *a2, *a1, *a0]),
-        real_time: i32::from_be_bytes([*r3, *r2, *r1, *r0]),
+        day_ahead,
+        real_time,
     }
 }
 
@@ -69,39 +88,19 @@ pub fn position(bytes: &[u8]) -> Result<Position, Fault>
     let [_, _, account, node, hour, class, rest @ ..] = bytes else {
         unreachable()
     };
-    let [a3, a2, a1, a0, r3, r2, r1, r0] = rest else {
-        unreachable()
-    };
     let Some(class) = Class::from_number(*class) else {
         return Err(Fault::new(Refusal::OutOfRange, Place::new(*account, *node, *hour)));
     };
+    let (day_ahead, rest) = number(rest);
+    let (real_time, _) = number(rest);
     Ok(Position {
         account: *account,
         node: *node,
         hour: *hour,
         class,
-        day_ahead: u32::from_be_bytes([*a3, *a2, *a1, *a0]),
-        real_time: u32::from_be_bytes([*r3, *r2, *r1, *r0]),
+        day_ahead,
+        real_time,
     })
-}
-
-// The first four numbers of four bytes each.
-fn four_numbers(bytes: &[u8]) -> (u32, u32, u32, u32)
-    requires { ⌜ 16 ≤ length (now bytes) ⌝ }
-    ensures { λ r. ⌜ r ≡ (four-bytes (now (bytes .entry)) 0, four-bytes (now (bytes .entry)) 4, four-bytes (now (bytes .entry)) 8, four-bytes (now (bytes .entry)) 12) ⌝ }
-{
-    let [a3, a2, a1, a0, b3, b2, b1, b0, rest @ ..] = bytes else {
-        unreachable()
-    };
-    let [c3, c2, c1, c0, d3, d2, d1, d0, ..] = rest else {
-        unreachable()
-    };
-    (
-        u32::from_be_bytes([*a3, *a2, *a1, *a0]),
-        u32::from_be_bytes([*b3, *b2, *b1, *b0]),
-        u32::from_be_bytes([*c3, *c2, *c1, *c0]),
-        u32::from_be_bytes([*d3, *d2, *d1, *d0]),
-    )
 }
 
 pub fn interconnection(bytes: &[u8]) -> Interconnection
@@ -111,12 +110,11 @@ pub fn interconnection(bytes: &[u8]) -> Interconnection
     let [_, _, interconnection, system, node, hour, rest @ ..] = bytes else {
         unreachable()
     };
-    let (day_ahead_export, day_ahead_import, real_time_export, real_time_import) = four_numbers(
-        rest,
-    );
-    let [.., p3, p2, p1, p0] = rest else {
-        unreachable()
-    };
+    let (day_ahead_export, rest) = number(rest);
+    let (day_ahead_import, rest) = number(rest);
+    let (real_time_export, rest) = number(rest);
+    let (real_time_import, rest) = number(rest);
+    let (imbalance_price, _) = signed_number(rest);
     Interconnection {
         interconnection: *interconnection,
         system: *system,
@@ -126,7 +124,7 @@ pub fn interconnection(bytes: &[u8]) -> Interconnection
         day_ahead_import,
         real_time_export,
         real_time_import,
-        imbalance_price: i32::from_be_bytes([*p3, *p2, *p1, *p0]),
+        imbalance_price,
     }
 }
 
@@ -137,7 +135,10 @@ pub fn reserve(bytes: &[u8]) -> Reserve
     let [_, _, account, unit, kind, hour, rest @ ..] = bytes else {
         unreachable()
     };
-    let (day_ahead_price, day_ahead, real_time_price, real_time) = four_numbers(rest);
+    let (day_ahead_price, rest) = number(rest);
+    let (day_ahead, rest) = number(rest);
+    let (real_time_price, rest) = number(rest);
+    let (real_time, _) = number(rest);
     Reserve {
         account: *account,
         unit: *unit,

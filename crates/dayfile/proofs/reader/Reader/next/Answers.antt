@@ -24,5 +24,4 @@ returns-in-Ok c =
 pub returns-in-Err : need.returns-in-Err
 returns-in-Err c =
     let h = cut (c .args .self .now .file .now) (c .args .self .now .offset) _ (c .in-Err .ensures tt .value) in
-    let e = ap (λ f. Err (reading-at (c .args .self .now .offset) f)) (c .plain .ensures) in
-    record { file = refl; part = ap Err (c .at-offset .ensures) ∙ e ∙ h; offset = ap (past (c .args .self .now .offset)) h; moves = tt }
+    record { file = refl; part = (λ i. Err (c .at-offset .ensures i)) ∙ (λ i. Err (reading-at (c .args .self .now .offset) (c .plain .ensures i))) ∙ h; offset = ap (past (c .args .self .now .offset)) h; moves = tt }
