@@ -108,22 +108,22 @@ pub fn encode_position(position: Position) -> [u8; 14]
     ]
 }
 
-pub fn encode_interconnection(x: Interconnection) -> [u8; 26]
-    ensures bytes { λ r. ⌜ r ≡ interconnection-bytes x ⌝ }
-    ensures back { λ r. ⌜ decoded-record r ≡ Ok (Record.Interconnection x) ⌝ }
+pub fn encode_interconnection(exchange: Interconnection) -> [u8; 26]
+    ensures bytes { λ r. ⌜ r ≡ interconnection-bytes exchange ⌝ }
+    ensures back { λ r. ⌜ decoded-record r ≡ Ok (Record.Interconnection exchange) ⌝ }
 {
-    let [a3, a2, a1, a0] = four_bytes(x.day_ahead_export);
-    let [b3, b2, b1, b0] = four_bytes(x.day_ahead_import);
-    let [c3, c2, c1, c0] = four_bytes(x.real_time_export);
-    let [d3, d2, d1, d0] = four_bytes(x.real_time_import);
-    let [p3, p2, p1, p0] = four_signed_bytes(x.imbalance_price);
+    let [a3, a2, a1, a0] = four_bytes(exchange.day_ahead_export);
+    let [b3, b2, b1, b0] = four_bytes(exchange.day_ahead_import);
+    let [c3, c2, c1, c0] = four_bytes(exchange.real_time_export);
+    let [d3, d2, d1, d0] = four_bytes(exchange.real_time_import);
+    let [p3, p2, p1, p0] = four_signed_bytes(exchange.imbalance_price);
     [
         b'I',
         b'X',
-        x.interconnection,
-        x.system,
-        x.node,
-        x.hour,
+        exchange.interconnection,
+        exchange.system,
+        exchange.node,
+        exchange.hour,
         a3,
         a2,
         a1,
