@@ -42,9 +42,9 @@ fn eight_bytes(n: u64) -> [u8; 8]
     n.to_be_bytes()
 }
 
-pub fn encode_heading(heading: Heading) -> [u8; 10]
+fn bytes_of_heading(heading: Heading) -> [u8; 10]
     ensures bytes { λ r. ⌜ r ≡ heading-bytes heading ⌝ }
-    ensures back { λ r. ⌜ decoded-heading r ≡ Ok heading ⌝ }
+    ensures year { λ r. ⌜ two-bytes r 2 ≡ heading .year ⌝ }
 {
     let [y1, y0] = two_bytes(heading.year);
     [
@@ -59,6 +59,13 @@ pub fn encode_heading(heading: Heading) -> [u8; 10]
         heading.nodes,
         heading.interconnections,
     ]
+}
+
+pub fn encode_heading(heading: Heading) -> [u8; 10]
+    ensures bytes { λ r. ⌜ r ≡ heading-bytes heading ⌝ }
+    ensures back { λ r. ⌜ decoded-heading r ≡ Ok heading ⌝ }
+{
+    bytes_of_heading(heading)
 }
 
 pub fn encode_price(price: Price) -> [u8; 12]
