@@ -1,9 +1,5 @@
 // Making a book, and entering records into it.
 ghost use mathlib.Core.Path.{_≡_};
-ghost use Prim.Native.Nat.{_≤_};
-ghost use mathlib.Core.List.{[], _++_, _∷_};
-ghost use Rattle.rows.specs.Tables.{row-refusal};
-ghost use Rattle.std.specs.Of.Vec.{vec-cap, vec-items};
 ghost use Rattle.std.specs.Vec.{made};
 ghost use Rattle.std.specs.declared.option.Option.the-variants.{None};
 ghost use Rattle.dayfile.specs.Decoded.{decoded-heading};
@@ -28,7 +24,6 @@ use rows::kinds::PositionRow;
 use rows::kinds::PriceRow;
 use rows::kinds::RESERVE_ROOM;
 use rows::kinds::ReserveRow;
-use rows::row::Row;
 use rows::table::refusal_after;
 use std::alloc::AllocError;
 use std::alloc::Global;
@@ -46,16 +41,6 @@ fn new_heading() -> Heading
         nodes: 1,
         interconnections: 0,
     }
-}
-
-// Adds a row that is not refused at the end. The room is there: nothing is allocated.
-fn add_row<T: Row>(_heading: &Heading, rows: &mut Vec<T>, row: T)
-    requires room { ⌜ terms .room ≤ vec-cap (now rows) ⌝ }
-    requires free { ⌜ row-refusal terms (now «_heading») (vec-items (now rows)) row ≡ None ⌝ }
-    ensures items { λ _. ⌜ vec-items (now (rows .exit)) ≡ vec-items (now (rows .entry)) ++ row ∷ [] ⌝ }
-    ensures capacity { λ _. ⌜ vec-cap (now (rows .exit)) ≡ vec-cap (now (rows .entry)) ⌝ }
-{
-    rows.push_reserved(row);
 }
 
 impl Book {
@@ -118,19 +103,18 @@ impl Book {
         }
     }
 
-    // Adds a record that is not refused at the end of its table.
+    // Adds a record that is not refused at the end of its table. The room is there: nothing is allocated.
     fn add(&mut self, item: Record)
         requires { ⌜ record-refusal (held (now self)) item ≡ None ⌝ }
         ensures { λ _. ⌜ held (now (self .exit)) ≡ with-record (held (now (self .entry))) item ⌝ }
     {
-        let heading = self.heading;
         match item {
-            Record::Price(p) => add_row(&heading, &mut self.prices, p),
-            Record::Position(p) => add_row(&heading, &mut self.positions, p),
-            Record::Interconnection(p) => add_row(&heading, &mut self.interconnections, p),
-            Record::Reserve(p) => add_row(&heading, &mut self.reserves, p),
-            Record::Failure(p) => add_row(&heading, &mut self.failures, p),
-            Record::Fine(p) => add_row(&heading, &mut self.fines, p),
+            Record::Price(p) => self.prices.push_reserved(p),
+            Record::Position(p) => self.positions.push_reserved(p),
+            Record::Interconnection(p) => self.interconnections.push_reserved(p),
+            Record::Reserve(p) => self.reserves.push_reserved(p),
+            Record::Failure(p) => self.failures.push_reserved(p),
+            Record::Fine(p) => self.fines.push_reserved(p),
         }
     }
 
