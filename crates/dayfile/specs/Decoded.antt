@@ -4,7 +4,7 @@ use mathlib.Core.Bool.{cond}
 use mathlib.Core.List.{List}
 use lib.Dec.{eqb, ltb}
 use lib.ListN.{length}
-use Rattle.std.specs.Options.{mapped, okOr}
+use Rattle.std.specs.Options.{okOr}
 use Rattle.std.specs.declared.option.Option.{Option}
 use Rattle.std.specs.declared.option.Option.the-variants.{Some, None}
 use Rattle.std.specs.declared.result.Result.{Result}
@@ -18,6 +18,7 @@ use Rattle.dayfile.specs.Marks.{mark-length, mark-of}
 use Rattle.dayfile.specs.declared.heading.Heading.{Heading}
 use Rattle.dayfile.specs.declared.mark.Mark.{Mark}
 use Rattle.dayfile.specs.declared.mark.Mark.the-variants as mark
+use Rattle.dayfile.specs.declared.record.Position.{Position}
 use Rattle.dayfile.specs.declared.record.Record.{Record}
 use Rattle.dayfile.specs.declared.record.Record.the-variants as kind
 
@@ -45,10 +46,14 @@ heading-under mark.Failure bytes = Err (plain UnexpectedMark)
 heading-under mark.Fine bytes = Err (plain UnexpectedMark)
 heading-under mark.End bytes = Err (plain UnexpectedMark)
 
+-- a position whose class is unknown is out of range, at its own account, node and hour
+abbrev pub position-or-fault : List ℕ → Result Position Fault
+position-or-fault bytes = okOr (position-in bytes) (fault-of OutOfRange (at (byte bytes 2) (byte bytes 3) (byte bytes 4)))
+
 abbrev pub record-under : Mark → List ℕ → Result Record Fault
 record-under mark.Day bytes = Err (plain UnexpectedMark)
 record-under mark.Price bytes = Ok (kind.Price (price-in bytes))
-record-under mark.Position bytes = okOr (mapped kind.Position (position-in bytes)) (fault-of OutOfRange (at (byte bytes 2) (byte bytes 3) (byte bytes 4)))
+record-under mark.Position bytes = and-then (position-or-fault bytes) (λ x. Ok (kind.Position x))
 record-under mark.Interconnection bytes = Ok (kind.Interconnection (interconnection-in bytes))
 record-under mark.Reserve bytes = Ok (kind.Reserve (reserve-in bytes))
 record-under mark.Failure bytes = Ok (kind.Failure (failure-in bytes))

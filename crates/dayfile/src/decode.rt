@@ -47,8 +47,8 @@ pub fn decode_record(bytes: &[u8]) -> Result<Record, Fault>
     match mark_of(bytes) {
         Ok(Mark::Price) => Ok(Record::Price(fields::price(bytes))),
         Ok(Mark::Position) => match fields::position(bytes) {
-            Some(position) => Ok(Record::Position(position)),
-            None => Err(Fault::new(Refusal::OutOfRange, fields::position_place(bytes))),
+            Ok(position) => Ok(Record::Position(position)),
+            Err(fault) => Err(fault),
         },
         Ok(Mark::Interconnection) => Ok(Record::Interconnection(fields::interconnection(bytes))),
         Ok(Mark::Reserve) => Ok(Record::Reserve(fields::reserve(bytes))),

@@ -1,8 +1,9 @@
 // The fields of each kind of record, taken apart. Every function here is given a record of the length that its mark has.
 ghost use mathlib.Core.Path.{_≡_};
-ghost use lib.ListN.{length};
-ghost use Rattle.faults.specs.Places.{at};
-ghost use Rattle.dayfile.specs.Fields.{byte, failure-in, fine-in, four-bytes, heading-in, interconnection-in, position-in, price-in, reserve-in, signed-four-bytes, two-bytes};
+ghost use Prim.Native.Nat.{_+_, _≤_};
+ghost use lib.ListN.{drop, length};
+ghost use Rattle.dayfile.specs.Decoded.{position-or-fault};
+ghost use Rattle.dayfile.specs.Fields.{failure-in, fine-in, four-bytes, heading-in, interconnection-in, price-in, reserve-in, signed-four-bytes, two-bytes};
 use crate::heading::Heading;
 use crate::record::Class;
 use crate::record::Failure;
@@ -11,25 +12,44 @@ use crate::record::Interconnection;
 use crate::record::Position;
 use crate::record::Price;
 use crate::record::Reserve;
+use faults::fault::Fault;
 use faults::fault::Place;
+use faults::refusal::Refusal;
+
+// The number in the first four bytes, and the bytes after them.
+fn number(bytes: &[u8]) -> (u32, &[u8])
+    requires { ⌜ 4 ≤ length (now bytes) ⌝ }
+    ensures value { λ r. ⌜ r .0 ≡ four-bytes (now (bytes .entry)) 0 ⌝ }
+    ensures rest { λ r. ⌜ now (r .1) ≡ drop 4 (now (bytes .entry)) ⌝ }
+    ensures left { λ r. ⌜ length (now (r .1)) + 4 ≡ length (now (bytes .entry)) ⌝ }
+{
+    let [b3, b2, b1, b0, rest @ ..] = bytes else {
+        unreachable()
+    };
+    (u32::from_be_bytes([*b3, *b2, *b1, *b0]), rest)
+}
+
+// The same of a signed number.
+fn signed_number(bytes: &[u8]) -> (i32, &[u8])
+    requires { ⌜ 4 ≤ length (now bytes) ⌝ }
+    ensures value { λ r. ⌜ r .0 ≡ signed-four-bytes (now (bytes .entry)) 0 ⌝ }
+    ensures rest { λ r. ⌜ now (r .1) ≡ drop 4 (now (bytes .entry)) ⌝ }
+    ensures left { λ r. ⌜ length (now (r .1)) + 4 ≡ length (now (bytes .entry)) ⌝ }
+{
+    let [b3, b2, b1, b0, rest @ ..] = bytes else {
+        unreachable()
+    };
+    (i32::from_be_bytes([*b3, *b2, *b1, *b0]), rest)
+}
 
 pub fn heading(bytes: &[u8]) -> Option<Heading>
     requires { ⌜ length (now bytes) ≡ 10 ⌝ }
     ensures { λ r. ⌜ r ≡ heading-in (now (bytes .entry)) ⌝ }
 {
-    let [
-        _,
-        _,
-        y1,
-        y0,
-        month,
-        day,
-        hours,
-        accounts,
-        nodes,
-        interconnections,
-    ] = bytes
-    else {
+    let [_, _, y1, y0, month, day, rest @ ..] = bytes else {
+        unreachable()
+    };
+    let [hours, accounts, nodes, interconnections] = rest else {
         unreachable()
     };
     let year = u16::from_be_bytes([*y1, *y0]);
@@ -48,122 +68,39 @@ pub fn price(bytes: &[u8]) -> Price
     requires { ⌜ length (now bytes) ≡ 12 ⌝ }
     ensures { λ r. ⌜ r ≡ price-in (now (bytes .entry)) ⌝ }
 {
-    let [_, _, node, hour, a3, a2, a1, a0, r3, r2, r1, r0] = bytes else {
+    let [_, _, node, hour, rest @ ..] = bytes else {
         unreachable()
     };
+    let (day_ahead, rest) = signed_number(rest);
+    let (real_time, _) = signed_number(rest);
     Price {
         node: *node,
         hour: *hour,
-        day_ahead: i32::from_be_bytes([*a3, *a2, *a1, *a0]),
-        real_time: i32::from_be_bytes([*r3, *r2, *r1, *r0]),
+        day_ahead,
+        real_time,
     }
 }
 
-pub fn position(bytes: &[u8]) -> Option<Position>
+pub fn position(bytes: &[u8]) -> Result<Position, Fault>
     requires { ⌜ length (now bytes) ≡ 14 ⌝ }
-    ensures { λ r. ⌜ r ≡ position-in (now (bytes .entry)) ⌝ }
+    ensures { λ r. ⌜ r ≡ position-or-fault (now (bytes .entry)) ⌝ }
 {
     let [_, _, account, node, hour, class, rest @ ..] = bytes else {
         unreachable()
     };
-    let [a3, a2, a1, a0, r3, r2, r1, r0] = rest else {
-        unreachable()
+    let Some(class) = Class::from_number(*class) else {
+        return Err(Fault::new(Refusal::OutOfRange, Place::new(*account, *node, *hour)));
     };
-    match Class::from_number(*class) {
-        Some(class) => Some(Position {
-            account: *account,
-            node: *node,
-            hour: *hour,
-            class,
-            day_ahead: u32::from_be_bytes([*a3, *a2, *a1, *a0]),
-            real_time: u32::from_be_bytes([*r3, *r2, *r1, *r0]),
-        }),
-        None => None,
-    }
-}
-
-// The account, node and hour of a position whose class is unknown.
-pub fn position_place(bytes: &[u8]) -> Place
-    requires { ⌜ length (now bytes) ≡ 14 ⌝ }
-    ensures { λ r. ⌜ r ≡ at (byte (now (bytes .entry)) 2) (byte (now (bytes .entry)) 3) (byte (now (bytes .entry)) 4) ⌝ }
-{
-    let [_, _, account, node, hour, ..] = bytes else {
-        unreachable()
-    };
-    Place::new(*account, *node, *hour)
-}
-
-// Four numbers of four bytes each.
-fn four_numbers(bytes: &[u8]) -> (u32, u32, u32, u32)
-    requires { ⌜ length (now bytes) ≡ 16 ⌝ }
-    ensures { λ r. ⌜ r ≡ (four-bytes (now (bytes .entry)) 0, four-bytes (now (bytes .entry)) 4, four-bytes (now (bytes .entry)) 8, four-bytes (now (bytes .entry)) 12) ⌝ }
-{
-    let [
-        a3,
-        a2,
-        a1,
-        a0,
-        b3,
-        b2,
-        b1,
-        b0,
-        c3,
-        c2,
-        c1,
-        c0,
-        d3,
-        d2,
-        d1,
-        d0,
-    ] = bytes
-    else {
-        unreachable()
-    };
-    (
-        u32::from_be_bytes([*a3, *a2, *a1, *a0]),
-        u32::from_be_bytes([*b3, *b2, *b1, *b0]),
-        u32::from_be_bytes([*c3, *c2, *c1, *c0]),
-        u32::from_be_bytes([*d3, *d2, *d1, *d0]),
-    )
-}
-
-// Four numbers of four bytes each, and a signed one.
-fn exchange(bytes: &[u8]) -> (u32, u32, u32, u32, i32)
-    requires { ⌜ length (now bytes) ≡ 20 ⌝ }
-    ensures { λ r. ⌜ r ≡ (four-bytes (now (bytes .entry)) 0, four-bytes (now (bytes .entry)) 4, four-bytes (now (bytes .entry)) 8, four-bytes (now (bytes .entry)) 12, signed-four-bytes (now (bytes .entry)) 16) ⌝ }
-{
-    let [
-        a3,
-        a2,
-        a1,
-        a0,
-        b3,
-        b2,
-        b1,
-        b0,
-        c3,
-        c2,
-        c1,
-        c0,
-        d3,
-        d2,
-        d1,
-        d0,
-        p3,
-        p2,
-        p1,
-        p0,
-    ] = bytes
-    else {
-        unreachable()
-    };
-    (
-        u32::from_be_bytes([*a3, *a2, *a1, *a0]),
-        u32::from_be_bytes([*b3, *b2, *b1, *b0]),
-        u32::from_be_bytes([*c3, *c2, *c1, *c0]),
-        u32::from_be_bytes([*d3, *d2, *d1, *d0]),
-        i32::from_be_bytes([*p3, *p2, *p1, *p0]),
-    )
+    let (day_ahead, rest) = number(rest);
+    let (real_time, _) = number(rest);
+    Ok(Position {
+        account: *account,
+        node: *node,
+        hour: *hour,
+        class,
+        day_ahead,
+        real_time,
+    })
 }
 
 pub fn interconnection(bytes: &[u8]) -> Interconnection
@@ -173,8 +110,11 @@ pub fn interconnection(bytes: &[u8]) -> Interconnection
     let [_, _, interconnection, system, node, hour, rest @ ..] = bytes else {
         unreachable()
     };
-    let (day_ahead_export, day_ahead_import, real_time_export, real_time_import, imbalance_price) =
-        exchange(rest);
+    let (day_ahead_export, rest) = number(rest);
+    let (day_ahead_import, rest) = number(rest);
+    let (real_time_export, rest) = number(rest);
+    let (real_time_import, rest) = number(rest);
+    let (imbalance_price, _) = signed_number(rest);
     Interconnection {
         interconnection: *interconnection,
         system: *system,
@@ -195,7 +135,10 @@ pub fn reserve(bytes: &[u8]) -> Reserve
     let [_, _, account, unit, kind, hour, rest @ ..] = bytes else {
         unreachable()
     };
-    let (day_ahead_price, day_ahead, real_time_price, real_time) = four_numbers(rest);
+    let (day_ahead_price, rest) = number(rest);
+    let (day_ahead, rest) = number(rest);
+    let (real_time_price, rest) = number(rest);
+    let (real_time, _) = number(rest);
     Reserve {
         account: *account,
         unit: *unit,

@@ -3,7 +3,7 @@ ghost use lib.Dec.{T};
 ghost use Rattle.dayfile.specs.Calendar.{real-heading};
 
 // A heading always has a real date, 23, 24 or 25 hours, and counts within their ranges: no value of another kind can be made.
-#[derive(Clone, Copy, PartialEq, Eq)]
+#[derive(Clone, Copy)]
 pub struct Heading {
     pub year: u16,
     pub month: u8,

@@ -1,6 +1,6 @@
 // Hands out the records of a file one by one.
 ghost use mathlib.Core.Path.{_≡_};
-ghost use Prim.Native.Nat.{_<_, _≤_};
+ghost use Prim.Native.Nat.{_+_, _<_, _≤_};
 ghost use lib.Dec.{eqb};
 ghost use lib.ListN.{length};
 ghost use Rattle.std.specs.Vec.{made};
@@ -35,6 +35,18 @@ fn first_record(bytes: &[u8]) -> Result<&[u8], Refusal>
     Ok(&bytes[0..n])
 }
 
+// The record that begins at the offset.
+fn record_at(file: &[u8], offset: usize) -> Result<&[u8], Fault>
+    requires { ⌜ offset ≤ length (now file) ⌝ }
+    ensures value { λ r. ⌜ lent r ≡ cut-at (now (file .entry)) offset ⌝ }
+    ensures within { λ r. ⌜ made r (λ part. (4 ≤ length (now part)) × (offset + length (now part) ≤ length (now (file .entry)))) ⌝ }
+{
+    match first_record(&file[offset..]) {
+        Ok(part) => Ok(part),
+        Err(refusal) => Err(Fault::plain(refusal).at_offset(offset)),
+    }
+}
+
 impl<'a> Reader<'a> {
     // At the file's first byte.
     pub fn new(file: &'a [u8]) -> Reader<'a>
@@ -47,7 +59,8 @@ impl<'a> Reader<'a> {
     pub fn offset(&self) -> usize
         ensures { λ r. ⌜ r ≡ now (self .entry) .offset ⌝ }
     {
-        self.offset
+        let Reader { offset, .. } = self;
+        *offset
     }
 
     // Was the whole file handed out?
@@ -64,13 +77,12 @@ impl<'a> Reader<'a> {
         ensures offset { λ _. ⌜ now (self .exit) .offset ≡ past (now (self .entry) .offset) (cut-at (now (now (self .entry) .file)) (now (self .entry) .offset)) ⌝ }
         ensures moves { λ r. ⌜ made r (λ _. now (self .entry) .offset < now (self .exit) .offset) ⌝ }
     {
-        let file = self.file;
-        match first_record(&file[self.offset..]) {
+        match record_at(self.file, self.offset) {
             Ok(part) => {
                 self.offset += part.len();
                 Ok(part)
             }
-            Err(refusal) => Err(Fault::plain(refusal).at_offset(self.offset)),
+            Err(fault) => Err(fault),
         }
     }
 }

@@ -3,7 +3,7 @@ ghost use mathlib.Core.Path.{_≡_};
 ghost use Rattle.dayfile.specs.Classes.{class-number, class-of};
 
 // What a position stands for: energy that is put into the system (generation, import) or taken out of it (load, export).
-#[derive(Clone, Copy, PartialEq, Eq)]
+#[derive(Clone, Copy)]
 pub enum Class {
     Generation,
     Load,
@@ -39,7 +39,7 @@ impl Class {
 }
 
 // The prices of a node in an hour, in centavos per MWh.
-#[derive(Clone, Copy, PartialEq, Eq)]
+#[derive(Clone, Copy)]
 pub struct Price {
     pub node: u8,
     pub hour: u8,
@@ -49,7 +49,7 @@ pub struct Price {
 
 // An account's energy at a node in an hour, in kWh: what was sold or bought the day before, and what was then
 // metered (generation, load) or scheduled (import, export).
-#[derive(Clone, Copy, PartialEq, Eq)]
+#[derive(Clone, Copy)]
 pub struct Position {
     pub account: u8,
     pub node: u8,
@@ -61,7 +61,7 @@ pub struct Position {
 
 // The exchange over an interconnection with an external system in an hour, in kWh, and the price of its imbalance
 // in centavos per MWh.
-#[derive(Clone, Copy, PartialEq, Eq)]
+#[derive(Clone, Copy)]
 pub struct Interconnection {
     pub interconnection: u8,
     pub system: u8,
@@ -75,7 +75,7 @@ pub struct Interconnection {
 }
 
 // A unit's reserve of one kind in an hour: price in centavos per MWh and quantity in kWh, the day before and in real time.
-#[derive(Clone, Copy, PartialEq, Eq)]
+#[derive(Clone, Copy)]
 pub struct Reserve {
     pub account: u8,
     pub unit: u8,
@@ -88,14 +88,14 @@ pub struct Reserve {
 }
 
 // A unit and kind of reserve that failed the minimum standard in this month.
-#[derive(Clone, Copy, PartialEq, Eq)]
+#[derive(Clone, Copy)]
 pub struct Failure {
     pub unit: u8,
     pub kind: u8,
 }
 
 // A fine on an account, in centavos.
-#[derive(Clone, Copy, PartialEq, Eq)]
+#[derive(Clone, Copy)]
 pub struct Fine {
     pub identifier: u32,
     pub account: u8,
@@ -103,7 +103,7 @@ pub struct Fine {
 }
 
 // A record that a book takes.
-#[derive(Clone, Copy, PartialEq, Eq)]
+#[derive(Clone, Copy)]
 pub enum Record {
     Price(Price),
     Position(Position),
