@@ -98,12 +98,12 @@ pub fn load(book: &mut Book, file: &[u8]) -> Result<(), Fault>
     ensures value { λ r. ⌜ r ≡ answer (file-records (now (file .entry))) ⌝ }
     ensures after { λ _. ⌜ held (now (book .exit)) ≡ load-leaves (held (now (book .entry))) (now (file .entry)) ⌝ }
 {
-    let heading = book.heading;
+    let held_before = book.heading;
     let mut reader = Reader::new(file);
     match open_first(book, &mut reader) {
         Ok(()) => read_or_clear(book, &mut reader),
         Err(fault) => {
-            book.clear(heading);
+            book.clear(held_before);
             Err(fault)
         }
     }
