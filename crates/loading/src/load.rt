@@ -4,6 +4,7 @@ ghost use Prim.Native.Nat.{suc, _+_};
 ghost use lib.ListN.{length};
 ghost use Rattle.dayfile.specs.Cuts.{cut-at, past};
 ghost use Rattle.book.specs.Books.{answer, held, opened};
+ghost use Rattle.loading.specs.Laws.{Load-is-open-enter-close, Loaded-is-sound};
 ghost use Rattle.loading.specs.Loading.{after-end, after-record, answered, at-offset, file-records, load-leaves, moves-on, opening, records-from, records-or-none, step, turned};
 use crate::turn::Turn;
 use book::book::Book;
@@ -107,4 +108,12 @@ pub fn load(book: &mut Book, file: &[u8]) -> Result<(), Fault>
             Err(fault)
         }
     }
+}
+
+// What an accepted load is: the calls that it stands for, one after the other, and a sound book.
+pub fn loading_stands() -> u8
+    ensures calls { λ _. ⌜ Load-is-open-enter-close ⌝ }
+    ensures sound { λ _. ⌜ Loaded-is-sound ⌝ }
+{
+    0
 }
