@@ -42,7 +42,7 @@ pub fn find_position(
 }
 
 // Where the position stands that the reading is of; none where no class has the reading's number.
-pub fn find_read(positions: &[Position], reading: Reading) -> Option<usize>
+fn find_read(positions: &[Position], reading: Reading) -> Option<usize>
     ensures value { λ r. ⌜ r ≡ read-position (now (positions .entry)) reading ⌝ }
     ensures within { λ r. ⌜ found r (λ i. i < length (now (positions .entry))) ⌝ }
 {
@@ -73,13 +73,13 @@ pub fn replace_reading(positions: &mut [Position], reading: Reading) -> bool
 }
 
 impl Reading {
-    pub fn place(self) -> Place
+    fn place(self) -> Place
         ensures { λ r. ⌜ r ≡ reading-place self ⌝ }
     {
         Place::new(self.account, self.node, self.hour)
     }
 
-    pub fn is_in_range(self) -> bool
+    fn is_in_range(self) -> bool
         ensures { λ r. ⌜ r ≡ reading-in-range self ⌝ }
     {
         self.account >= 1
@@ -89,7 +89,7 @@ impl Reading {
             && is_energy(self.real_time)
     }
 
-    pub fn is_listed(self, heading: &Heading) -> bool
+    fn is_listed(self, heading: &Heading) -> bool
         ensures { λ r. ⌜ r ≡ reading-listed (now (heading .entry)) self ⌝ }
     {
         self.account <= heading.accounts && self.node <= heading.nodes && self.hour <= heading.hours
