@@ -5,7 +5,7 @@ use mathlib.Core.Path.{_≡_, refl, sym, ap, _∙_}
 use mathlib.Core.Bool.{Bool, true, false, cond}
 use mathlib.Core.List.{List, [], _∷_, _++_, append-assoc, append-nil}
 use lib.Dec.{eqb, leb, ltb}
-use lib.ListN.{length, getD, take, drop}
+use lib.ListN.{length, take, drop}
 use Rattle.std.specs.Joined.{joined}
 use Rattle.std.specs.Results.{isOk}
 use Rattle.std.specs.declared.option.Option.{Option}
@@ -14,7 +14,7 @@ use Rattle.std.specs.declared.result.Result.{Result}
 use Rattle.std.specs.declared.result.Result.the-variants.{Ok, Err}
 use Rattle.std.proofs.shelf.Lists.{drop-all, drop-at, drop-drop, getD-append-left, length-append, length-drop, length-take-le, take-append-drop, take-at}
 use Rattle.std.proofs.shelf.Tests.{eq-eqb, eqb-true, le-leb, le-ltb, leb-true, ltb-false}
-use Rattle.faults.specs.Places.{plain, reading-at}
+use Rattle.faults.specs.Places.{plain}
 use Rattle.faults.specs.declared.fault.Fault.{Fault}
 use Rattle.faults.specs.declared.fault.Place.{Place}
 use Rattle.faults.specs.declared.refusal.Refusal.{Refusal}
@@ -24,7 +24,6 @@ use Rattle.dayfile.specs.Decoded.{and-then, count-under, decoded-end, decoded-h
 use Rattle.dayfile.specs.Fields.{byte}
 use Rattle.dayfile.specs.Marks.{mark-length, mark-of}
 use Rattle.dayfile.specs.Records.{Records}
-use Rattle.dayfile.specs.declared.heading.Heading.{Heading}
 use Rattle.dayfile.specs.declared.mark.Mark.{Mark}
 use Rattle.dayfile.specs.declared.mark.Mark.the-variants as mark
 use Rattle.dayfile.specs.declared.record.Record.{Record}
@@ -33,7 +32,7 @@ use Rattle.book.specs.Prices.{closing, ended, first-unpriced, priced-or-fault}
 use Rattle.book.specs.Soundness.{sound-records}
 use Rattle.book.proofs.Keeps.{entering-keeps-sound, opened-is-sound}
 use Rattle.loading.specs.Laws.{Accepted, Load-is-open-enter-close, Loaded-is-sound, entered-in-turn}
-use Rattle.loading.specs.Loading.{Step, after-cut, after-end, after-entry, after-record, at-offset, file-records, follow, goes-on, is-over, opening, records-from, records-under, step}
+use Rattle.loading.specs.Loading.{Step, after-cut, after-end, after-entry, at-offset, file-records, follow, goes-on, is-over, opening, records-from, records-under, step}
 
 -- the two steps behind what was accepted
 pub both : {X Y E : Type 0} (o : Result X E) (next : X → Result Y E) (y : Y) → and-then o next ≡ Ok y → (x : X) × (o ≡ Ok x) × (next x ≡ Ok y)

@@ -1,15 +1,13 @@
 -- Records that differ in nothing that a table looks at.
 use Prim.Native.Nat.{ℕ, zero, suc}
-use native.Mathlib.Omega.{arith}
 use mathlib.Core.Path.{_≡_, refl, sym, ap, _∙_}
-use mathlib.Core.Bool.{Bool, true, false, cond, not, _&&_}
+use mathlib.Core.Bool.{Bool, true, false, cond, not}
 use mathlib.Core.List.{List, [], _∷_, _++_}
 use lib.Dec.{leb}
 use lib.ListN.{length, getD, set}
 use Rattle.std.proofs.shelf.Tests.{and-parts, and-from, not-true}
 use Rattle.std.specs.Options.{isSome, mapped}
-use Rattle.std.specs.declared.option.Option.{Option}
-use Rattle.std.specs.declared.option.Option.the-variants.{Some, None}
+use Rattle.std.specs.declared.option.Option.the-variants.{Some}
 use Rattle.dayfile.specs.declared.heading.Heading.{Heading}
 use Rattle.rows.specs.Tables.{Terms, first-place, row-refusal, sound-table, taken-after}
 use Rattle.rows.proofs.Taken.{tested}

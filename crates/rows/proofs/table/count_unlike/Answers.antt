@@ -1,5 +1,4 @@
 use mathlib.Core.Path.{sym, ap, _∙_}
-use native.Mathlib.Omega.{arith}
 use Rattle.rows.proofs.Places.{place-found, place-none-more, place-none-all, within-end, within-here}
 use Rattle.rows.proofs.table.count_unlike.Needs as need
 

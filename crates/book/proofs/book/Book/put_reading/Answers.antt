@@ -1,9 +1,7 @@
-use mathlib.Core.Path.{_≡_, refl, sym, ap, _∙_}
-use mathlib.Core.List.{List}
+use mathlib.Core.Path.{_≡_, refl, ap, _∙_}
 use native.Mathlib.Omega.{arith}
 use lib.ListN.{length}
 use Rattle.std.proofs.shelf.Lists.{refilled-is}
-use Rattle.dayfile.specs.declared.record.Position.{Position}
 use Rattle.book.specs.Readings.{read-position, reread-at}
 use Rattle.book.proofs.Held.{same-records}
 use Rattle.book.proofs.book.Book.put_reading.Needs as need
