@@ -1,7 +1,8 @@
 -- Which records could have been entered as they stand, and what keeps them so.
-use Prim.Native.Nat.{_+_}
+use Prim.Native.Nat.{ℕ, _+_}
 use mathlib.Core.Bool.{Bool, true, not, _&&_}
 use mathlib.Core.Path.{_≡_}
+use mathlib.Core.List.{List}
 use lib.Dec.{eqb}
 use Rattle.std.specs.Options.{isSome}
 use Rattle.std.specs.declared.result.Result.the-variants.{Ok}
@@ -11,7 +12,7 @@ use Rattle.dayfile.specs.declared.heading.Heading.{Heading}
 use Rattle.dayfile.specs.declared.record.Record.{Record}
 use Rattle.rows.specs.Kinds.{price-terms, position-terms, interconnection-terms, reserve-terms, failure-terms, fine-terms}
 use Rattle.rows.specs.Tables.{sound-table}
-use Rattle.book.specs.Books.{admission, counts-of, no-records, record-count, record-refusal, with-record}
+use Rattle.book.specs.Books.{admitted, counts-of, no-records, record-count, record-refusal, with-record}
 use Rattle.book.specs.Readings.{correction, with-reading}
 use Rattle.book.specs.declared.counts.Counts.{Counts}
 use Rattle.book.specs.declared.reading.Reading.{Reading}
@@ -43,9 +44,9 @@ Opened-is-sound = (heading : Heading) → sound-records (no-records heading) ≡
 abbrev pub Sound-with-record : Type 0
 Sound-with-record = (b : Records) (x : Record) → sound-records (with-record b x) ≡ (sound-records b && not (isSome (record-refusal b x)))
 
--- a record that is entered leaves a sound book sound, with one record more
+-- an accepted enter leaves a sound book sound, with one record more
 abbrev pub Entering-keeps-sound : Type 0
-Entering-keeps-sound = (b : Records) (x : Record) → sound-records b ≡ true → admission b x ≡ Ok x
+Entering-keeps-sound = (b : Records) (bytes : List ℕ) (x : Record) → sound-records b ≡ true → admitted b bytes ≡ Ok x
     → (sound-records (with-record b x) ≡ true) × (record-count (with-record b x) ≡ record-count b + 1)
 
 -- a reading that is corrected leaves a sound book sound, with as many records of each kind

@@ -20,14 +20,14 @@ use Rattle.faults.specs.declared.fault.Place.{Place}
 use Rattle.faults.specs.declared.refusal.Refusal.{Refusal}
 use Rattle.faults.specs.declared.refusal.Refusal.the-variants.{UnknownMark, WrongLength, WrongCount}
 use Rattle.dayfile.specs.Cuts.{cut-at, first-record, front, past, placed-at}
-use Rattle.dayfile.specs.Decoded.{and-then, count-under, decoded-end, decoded-heading, decoded-record, heading-under, of-length, place-of, record-under, whole-mark}
+use Rattle.dayfile.specs.Decoded.{and-then, count-under, decoded-end, decoded-heading, decoded-record, heading-under, of-length, record-under, whole-mark}
 use Rattle.dayfile.specs.Fields.{byte}
 use Rattle.dayfile.specs.Marks.{mark-length, mark-of}
 use Rattle.dayfile.specs.Records.{Records}
 use Rattle.dayfile.specs.declared.mark.Mark.{Mark}
 use Rattle.dayfile.specs.declared.mark.Mark.the-variants as mark
 use Rattle.dayfile.specs.declared.record.Record.{Record}
-use Rattle.book.specs.Books.{admission, admitted, no-records, record-count, record-refusal, unless, with-record}
+use Rattle.book.specs.Books.{admission, admitted, no-records, record-count, with-record}
 use Rattle.book.specs.Prices.{closing, ended, first-unpriced, priced-or-fault}
 use Rattle.book.specs.Soundness.{sound-records}
 use Rattle.book.proofs.Keeps.{entering-keeps-sound, opened-is-sound}
@@ -117,27 +117,20 @@ no-end mark.Failure part x e = refl
 no-end mark.Fine part x e = refl
 no-end mark.End part x e = let z : _≡_ {A = ℕ} 0 1 = cc in absurd (omega arith)
 
--- what a record of each kind of part is
-pub record Entry (b : Records) (part : List ℕ) (x : Record) : Type 0 where
+-- a record that was entered stands whole, and is no end record
+pub record Entry (part : List ℕ) : Type 0 where
   pub letters : Mark
   pub stands : whole-mark part ≡ Ok letters
   pub no-last : isOk (decoded-end part) ≡ false
-  pub enterable : admission b x ≡ Ok x
 
-itself : {X : Type 0} (o : Option Refusal) (place : Place) (x y : X) → unless o place x ≡ Ok y → x ≡ y
-itself None place x y e = cc
-itself (Some r) place x y e = let z : _≡_ {A = ℕ} 0 1 = cc in absurd (omega arith)
-
-entry : (b : Records) (part : List ℕ) (x : Record) → admitted b part ≡ Ok x → Entry b part x
+entry : (b : Records) (part : List ℕ) (x : Record) → admitted b part ≡ Ok x → Entry part
 entry b part x e =
     let p = both (decoded-record part) (admission b) x e in
     let q = both (whole-mark part) (λ m. record-under m part) (p .0) (p .1) in
-    let same : p .0 ≡ x = itself (record-refusal b (p .0)) (place-of (p .0)) (p .0) x (p .2) in
     record {
       letters = q .0;
       stands = q .1;
       no-last = ap (λ o. isOk (and-then o (λ m. count-under m part))) (q .1) ∙ no-end (q .0) part (p .0) (q .2);
-      enterable = ap (admission b) (sym same) ∙ p .2;
     }
 
 -- an accepted run of records, and where it stands in the file
@@ -303,8 +296,7 @@ turns-sound : (parts : List (List ℕ)) (b r : Records) → sound-records b ≡ 
 turns-sound [] b r s e = let same : b ≡ r = cc in ap sound-records (sym same) ∙ s
 turns-sound (part ∷ parts) b r s e =
     let p = both (admitted b part) (λ x. entered-in-turn (with-record b x) parts) r e in
-    let k = entry b part (p .0) (p .1) in
-    turns-sound parts (with-record b (p .0)) r (entering-keeps-sound b (p .0) s (k .enterable) .0) (p .2)
+    turns-sound parts (with-record b (p .0)) r (entering-keeps-sound b part (p .0) s (p .1) .0) (p .2)
 
 priced-from : (o : Option Place) → priced-or-fault o ≡ Ok tt → o ≡ None
 priced-from None e = refl
