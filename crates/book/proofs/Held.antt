@@ -1,5 +1,5 @@
 -- Records that agree in every part.
-use mathlib.Core.Path.{_≡_, refl}
+use mathlib.Core.Path.{_≡_}
 use mathlib.Core.List.{List}
 use Rattle.dayfile.specs.Records.{Records}
 use Rattle.dayfile.specs.declared.heading.Heading.{Heading}

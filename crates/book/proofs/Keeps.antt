@@ -1,23 +1,23 @@
 -- What keeps a book sound.
-use Prim.Native.Nat.{ℕ, zero, suc, _+_, _≤_}
+use Prim.Native.Nat.{ℕ, _+_}
 use native.Mathlib.Omega.{arith}
 use mathlib.Core.Path.{_≡_, refl, sym, ap, _∙_}
 use mathlib.Core.Bool.{Bool, true, false, cond, not, _&&_}
 use mathlib.Core.List.{List, [], _∷_, _++_}
 use lib.Dec.{eqb, leb}
-use lib.ListN.{length, getD, set}
-use Rattle.std.specs.Options.{isSome, mapped}
+use lib.ListN.{length, getD}
+use Rattle.std.specs.Options.{isSome}
 use Rattle.std.specs.declared.option.Option.{Option}
 use Rattle.std.specs.declared.option.Option.the-variants.{Some, None}
 use Rattle.std.specs.declared.result.Result.{Result}
 use Rattle.std.specs.declared.result.Result.the-variants.{Ok, Err}
 use Rattle.std.proofs.shelf.Lists.{length-push, length-set}
-use Rattle.std.proofs.shelf.Tests.{and-parts, and-from, not-true, not-false, eq-eqb, eqb-true}
+use Rattle.std.proofs.shelf.Tests.{and-parts, and-from, eq-eqb, eqb-true}
 use Rattle.faults.specs.declared.fault.Fault.{Fault}
 use Rattle.faults.specs.declared.fault.Place.{Place}
 use Rattle.faults.specs.declared.refusal.Refusal.{Refusal}
-use Rattle.faults.specs.declared.refusal.Refusal.the-variants.{OutOfRange, AboveHeading, KeyTaken, TableFull, NoPosition}
-use Rattle.dayfile.specs.Decoded.{place-of}
+use Rattle.faults.specs.declared.refusal.Refusal.the-variants.{OutOfRange, AboveHeading}
+use Rattle.dayfile.specs.Decoded.{and-then, decoded-record, place-of}
 use Rattle.dayfile.specs.Headings.{same-fields}
 use Rattle.dayfile.specs.Records.{Records}
 use Rattle.dayfile.specs.declared.heading.Heading.{Heading}
@@ -25,13 +25,13 @@ use Rattle.dayfile.specs.declared.record.Position.{Position}
 use Rattle.dayfile.specs.declared.record.Record.{Record}
 use Rattle.dayfile.specs.declared.record.Record.the-variants as kind
 use Rattle.rows.specs.Kinds.{energy-in-range, price-terms, position-terms, interconnection-terms, reserve-terms, failure-terms, fine-terms}
-use Rattle.rows.specs.Tables.{Terms, first-place, row-refusal, sound-table, taken-after}
+use Rattle.rows.specs.Tables.{Terms, row-refusal, sound-table}
 use Rattle.rows.proofs.Like.{sound-set}
 use Rattle.rows.proofs.Taken.{taken-push}
 use Rattle.dayfile.proofs.Made.{same}
 use Rattle.dayfile.specs.Classes.{class-of}
 use Rattle.book.specs.Books.{admission, counts-of, record-count, record-refusal, unless, with-record}
-use Rattle.book.specs.Readings.{correction, correction-refusal, first-reason, no-position, read-position, reading-in-range, reading-listed, reading-place, reading-refusal, reread, reread-at, with-reading}
+use Rattle.book.specs.Readings.{correction-refusal, first-reason, no-position, read-position, reading-in-range, reading-listed, reading-place, reread, reread-at}
 use Rattle.book.specs.Soundness.{Correcting-keeps-sound, Day-tells-heading-and-counts, Entering-keeps-sound, Opened-is-sound, Sound-is-of-its-day, Sound-with-record, same-counts, sound-records}
 use Rattle.book.specs.declared.counts.Counts.{Counts}
 use Rattle.book.specs.declared.reading.Reading.{Reading}
@@ -145,15 +145,25 @@ pub unless-ok : {X : Type 0} (o : Option Refusal) (place : Place) (x y : X) → 
 unless-ok None place x y e = refl
 unless-ok (Some r) place x y e = let z : _≡_ {A = ℕ} 0 1 = cc in absurd (omega arith)
 
+itself : {X : Type 0} (o : Option Refusal) (place : Place) (x y : X) → unless o place x ≡ Ok y → x ≡ y
+itself None place x y e = cc
+itself (Some r) place x y e = let z : _≡_ {A = ℕ} 0 1 = cc in absurd (omega arith)
+
+-- nor against a record that was decoded first
+unrefused : (b : Records) (o : Result Record Fault) (x : Record) → and-then o (admission b) ≡ Ok x → record-refusal b x ≡ None
+unrefused b (Ok y) x e =
+    ap (record-refusal b) (sym (itself (record-refusal b y) (place-of y) y x e)) ∙ unless-ok (record-refusal b y) (place-of y) y x e
+unrefused b (Err f) x e = let z : _≡_ {A = ℕ} 0 1 = cc in absurd (omega arith)
+
 pub entering-keeps-sound : Entering-keeps-sound
-entering-keeps-sound b x s e =
-    (sound-with-record b x ∙ and-from _ _ s (ap (λ o. not (isSome o)) (unless-ok (record-refusal b x) (place-of x) x x e)), one-more b x)
+entering-keeps-sound b bytes x s e =
+    (sound-with-record b x ∙ and-from _ _ s (ap (λ o. not (isSome o)) (unrefused b (decoded-record bytes) x e)), one-more b x)
 
 -- a reading that may be corrected is in range
-ranged-from : (ranged named found : Bool) (reasonless : Option Refusal)
-    → first-reason (cond (not ranged) (Some OutOfRange) (cond (not named) (Some AboveHeading) None)) reasonless ≡ None → ranged ≡ true
-ranged-from true named found o e = refl
-ranged-from false named found o e = let z : _≡_ {A = ℕ} 0 1 = cc in absurd (omega arith)
+ranged-from : (ranged named : Bool) (other : Option Refusal)
+    → first-reason (cond (not ranged) (Some OutOfRange) (cond (not named) (Some AboveHeading) None)) other ≡ None → ranged ≡ true
+ranged-from true named o e = refl
+ranged-from false named o e = let z : _≡_ {A = ℕ} 0 1 = cc in absurd (omega arith)
 
 energy-from : (reading : Reading) → reading-in-range reading ≡ true → energy-in-range (reading .«real_time») ≡ true
 energy-from reading e =
@@ -189,7 +199,7 @@ pub correcting-keeps-sound : Correcting-keeps-sound
 unfolding counted
 correcting-keeps-sound b reading s e =
     let none = unless-ok (correction-refusal b reading) (reading-place reading) reading reading e in
-    let kwh = energy-from reading (ranged-from (reading-in-range reading) (reading-listed (b .heading) reading) true _ none) in
+    let kwh = energy-from reading (ranged-from (reading-in-range reading) (reading-listed (b .heading) reading) _ none) in
     let o = read-position (b .positions) reading in
     let p = and-parts (s1 b) (r2 b) s in
     let q = and-parts (s2 b) (r3 b) (p .1) in (

@@ -12,7 +12,7 @@ use Rattle.dayfile.specs.declared.heading.Heading.{Heading}
 use Rattle.dayfile.specs.declared.record.Record.{Record}
 use Rattle.rows.specs.Kinds.{price-terms, position-terms, interconnection-terms, reserve-terms, failure-terms, fine-terms}
 use Rattle.rows.specs.Tables.{sound-table}
-use Rattle.book.specs.Books.{admission, counts-of, no-records, record-count, record-refusal, with-record}
+use Rattle.book.specs.Books.{admitted, counts-of, no-records, record-count, record-refusal, with-record}
 use Rattle.book.specs.Readings.{correction, with-reading}
 use Rattle.book.specs.declared.counts.Counts.{Counts}
 use Rattle.book.specs.declared.reading.Reading.{Reading}
@@ -44,9 +44,9 @@ Opened-is-sound = (heading : Heading) → sound-records (no-records heading) ≡
 abbrev pub Sound-with-record : Type 0
 Sound-with-record = (b : Records) (x : Record) → sound-records (with-record b x) ≡ (sound-records b && not (isSome (record-refusal b x)))
 
--- a record that is entered leaves a sound book sound, with one record more
+-- an accepted enter leaves a sound book sound, with one record more
 abbrev pub Entering-keeps-sound : Type 0
-Entering-keeps-sound = (b : Records) (x : Record) → sound-records b ≡ true → admission b x ≡ Ok x
+Entering-keeps-sound = (b : Records) (bytes : List ℕ) (x : Record) → sound-records b ≡ true → admitted b bytes ≡ Ok x
     → (sound-records (with-record b x) ≡ true) × (record-count (with-record b x) ≡ record-count b + 1)
 
 -- a reading that is corrected leaves a sound book sound, with as many records of each kind

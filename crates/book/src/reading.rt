@@ -1,5 +1,5 @@
 // A new reading of one position: whose it is, and the energy of real time in kWh.
-#[derive(Clone, Copy, PartialEq, Eq)]
+#[derive(Clone, Copy)]
 pub struct Reading {
     pub account: u8,
     pub node: u8,

@@ -15,7 +15,7 @@ use rows::kinds::ReserveRow;
 use rows::table::are_sound;
 
 impl Counts {
-    pub fn is_same(&self, other: &Counts) -> bool
+    fn is_same(&self, other: &Counts) -> bool
         ensures { λ r. ⌜ r ≡ same-counts (now (self .entry)) (now (other .entry)) ⌝ }
     {
         self.prices == other.prices

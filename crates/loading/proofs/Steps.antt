@@ -16,7 +16,7 @@ use Rattle.dayfile.specs.Records.{Records}
 use Rattle.dayfile.specs.declared.heading.Heading.{Heading}
 use Rattle.dayfile.specs.declared.record.Record.{Record}
 use Rattle.book.specs.Books.{admitted, answer, entered, no-records, opened}
-use Rattle.loading.specs.Loading.{Step, after-end, after-entry, after-record, at-offset, file-records, follow, goes-on, is-over, left-under, load-leaves, opening, records-from, records-or-none, records-under, step}
+use Rattle.loading.specs.Loading.{after-end, after-entry, after-record, at-offset, file-records, follow, goes-on, is-over, left-under, load-leaves, opening, records-from, records-or-none, records-under, step}
 
 entry-ok : (next offset : ℕ) (b : Records) (o : Result Record Fault) → Ok tt ≡ answer o → goes-on next (entered b o) ≡ after-entry next b (at-offset offset o)
 entry-ok next offset b (Ok x) e = refl

@@ -4,6 +4,7 @@ ghost use Prim.Native.Nat.{suc, _+_};
 ghost use lib.ListN.{length};
 ghost use Rattle.dayfile.specs.Cuts.{cut-at, past};
 ghost use Rattle.book.specs.Books.{answer, held, opened};
+ghost use Rattle.loading.specs.Laws.{Load-is-open-enter-close, Loaded-is-sound};
 ghost use Rattle.loading.specs.Loading.{after-end, after-record, answered, at-offset, file-records, load-leaves, moves-on, opening, records-from, records-or-none, step, turned};
 use crate::turn::Turn;
 use book::book::Book;
@@ -98,13 +99,21 @@ pub fn load(book: &mut Book, file: &[u8]) -> Result<(), Fault>
     ensures value { λ r. ⌜ r ≡ answer (file-records (now (file .entry))) ⌝ }
     ensures after { λ _. ⌜ held (now (book .exit)) ≡ load-leaves (held (now (book .entry))) (now (file .entry)) ⌝ }
 {
-    let heading = book.heading;
+    let held_before = book.heading;
     let mut reader = Reader::new(file);
     match open_first(book, &mut reader) {
         Ok(()) => read_or_clear(book, &mut reader),
         Err(fault) => {
-            book.clear(heading);
+            book.clear(held_before);
             Err(fault)
         }
     }
+}
+
+// What an accepted load is: the calls that it stands for, one after the other, and a sound book.
+pub fn loading_stands() -> u8
+    ensures calls { λ _. ⌜ Load-is-open-enter-close ⌝ }
+    ensures sound { λ _. ⌜ Loaded-is-sound ⌝ }
+{
+    0
 }

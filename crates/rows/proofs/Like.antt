@@ -1,19 +1,16 @@
 -- Records that differ in nothing that a table looks at.
 use Prim.Native.Nat.{ℕ, zero, suc}
-use native.Mathlib.Omega.{arith}
 use mathlib.Core.Path.{_≡_, refl, sym, ap, _∙_}
-use mathlib.Core.Bool.{Bool, true, false, cond, not, _&&_}
+use mathlib.Core.Bool.{Bool, true, false, cond, not}
 use mathlib.Core.List.{List, [], _∷_, _++_}
 use lib.Dec.{leb}
 use lib.ListN.{length, getD, set}
 use Rattle.std.proofs.shelf.Tests.{and-parts, and-from, not-true}
 use Rattle.std.specs.Options.{isSome, mapped}
-use Rattle.std.specs.declared.option.Option.{Option}
-use Rattle.std.specs.declared.option.Option.the-variants.{Some, None}
-use Rattle.faults.specs.declared.refusal.Refusal.{Refusal}
-use Rattle.faults.specs.declared.refusal.Refusal.the-variants.{OutOfRange, AboveHeading, KeyTaken, TableFull}
+use Rattle.std.specs.declared.option.Option.the-variants.{Some}
 use Rattle.dayfile.specs.declared.heading.Heading.{Heading}
 use Rattle.rows.specs.Tables.{Terms, first-place, row-refusal, sound-table, taken-after}
+use Rattle.rows.proofs.Taken.{tested}
 
 -- the second can stand where the first stands
 pub record Stands-for {X : Type 0} (t : Terms X) (h : Heading) (x y : X) : Type 0 where
@@ -21,11 +18,6 @@ pub record Stands-for {X : Type 0} (t : Terms X) (h : Heading) (x y : X) : Type 
   pub sees : (z : X) → t .alike x z ≡ t .alike y z
   pub ranged : t .in-range x ≡ true → t .in-range y ≡ true
   pub named : t .listed h x ≡ t .listed h y
-
--- the four tests of a record
-abbrev tested : Bool → Bool → Bool → Bool → Option Refusal
-tested ranged named keyed full =
-    cond (not ranged) (Some OutOfRange) (cond (not named) (Some AboveHeading) (cond keyed (Some KeyTaken) (cond full (Some TableFull) None)))
 
 ranged-from : (ranged named keyed full : Bool) → isSome (tested ranged named keyed full) ≡ false → ranged ≡ true
 ranged-from true named keyed full e = refl

@@ -1,13 +1,20 @@
 -- A walk along a table, record after record.
 use Prim.Native.Nat.{ℕ, _+_, _<_, _≤_}
+use native.Mathlib.Omega.{arith}
 use mathlib.Core.Path.{_≡_, refl, sym, ap, _∙_}
-use mathlib.Core.Bool.{Bool, true, false, not, _&&_}
+use mathlib.Core.Bool.{Bool, true, false, cond, not, _&&_}
 use mathlib.Core.List.{List, [], _∷_, _++_, append-assoc, append-nil}
+use lib.Dec.{leb}
 use lib.ListN.{length, getD, take, drop}
 use Rattle.std.specs.Options.{isSome}
+use Rattle.std.proofs.shelf.Tests.{leb-false}
+use Rattle.std.specs.declared.option.Option.{Option}
+use Rattle.std.specs.declared.option.Option.the-variants.{Some, None}
+use Rattle.faults.specs.declared.refusal.Refusal.{Refusal}
+use Rattle.faults.specs.declared.refusal.Refusal.the-variants.{OutOfRange, AboveHeading, KeyTaken, TableFull}
 use Rattle.std.proofs.shelf.Lists.{take-more, drop-more, drop-all}
 use Rattle.dayfile.specs.declared.heading.Heading.{Heading}
-use Rattle.rows.specs.Tables.{Terms, row-refusal, taken-after}
+use Rattle.rows.specs.Tables.{Terms, first-place, row-refusal, taken-after}
 
 -- is the record refused after these?
 refused : {X : Type 0} → Terms X → Heading → List X → X → Bool
@@ -56,3 +63,23 @@ taken-push t h before (y ∷ xs) x =
     ap (λ b. not (isSome (row-refusal t h before y)) && b) (taken-push t h (before ++ y ∷ []) xs x)
     ∙ and-three (not (isSome (row-refusal t h before y))) (taken-after t h (before ++ y ∷ []) xs) (not (isSome (row-refusal t h ((before ++ y ∷ []) ++ xs) x)))
     ∙ ap (λ b. (not (isSome (row-refusal t h before y)) && taken-after t h (before ++ y ∷ []) xs) && not (isSome (row-refusal t h b x))) (append-assoc before (y ∷ []) xs)
+
+-- the four tests of a record
+abbrev pub tested : Bool → Bool → Bool → Bool → Option Refusal
+tested ranged named keyed full =
+    cond (not ranged) (Some OutOfRange) (cond (not named) (Some AboveHeading) (cond keyed (Some KeyTaken) (cond full (Some TableFull) None)))
+
+free-room : (ranged named keyed full : Bool) → tested ranged named keyed full ≡ None → full ≡ false
+free-room false named keyed full e = let z : _≡_ {A = ℕ} 0 1 = cc in absurd (omega arith)
+free-room true false keyed full e = let z : _≡_ {A = ℕ} 0 1 = cc in absurd (omega arith)
+free-room true true true full e = let z : _≡_ {A = ℕ} 0 1 = cc in absurd (omega arith)
+free-room true true false true e = let z : _≡_ {A = ℕ} 0 1 = cc in absurd (omega arith)
+free-room true true false false e = refl
+
+-- a record that is not refused finds room: n is the length of the table, and cap what there is memory for
+pub room-left : {X : Type 0} (t : Terms X) (h : Heading) (xs : List X) (x : X) (n cap : ℕ)
+    → n ≡ length xs → t .room ≤ cap → row-refusal t h xs x ≡ None → n < cap
+room-left t h xs x n cap e r f =
+    let full : leb (t .room) (length xs) ≡ false =
+    free-room (t .in-range x) (t .listed h x) (isSome (first-place (t .alike x) xs)) (leb (t .room) (length xs)) f in
+    omega (arith, leb-false (t .room) (length xs) full)

@@ -6,7 +6,6 @@ use lib.IntN.{ℤ, pos, negsuc}
 use lib.Signed.{leZ}
 use Rattle.dayfile.specs.Calendar.{within}
 use Rattle.dayfile.specs.Classes.{class-number}
-use Rattle.dayfile.specs.declared.heading.Heading.{Heading}
 use Rattle.dayfile.specs.declared.record.Failure.{Failure}
 use Rattle.dayfile.specs.declared.record.Fine.{Fine}
 use Rattle.dayfile.specs.declared.record.Interconnection.{Interconnection}

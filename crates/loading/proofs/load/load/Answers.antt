@@ -1,4 +1,4 @@
-use mathlib.Core.Path.{_≡_, refl, ap, _∙_}
+use mathlib.Core.Path.{ap, _∙_}
 use Rattle.dayfile.specs.Cuts.{cut-at, past}
 use Rattle.book.specs.Books.{answer, held, opened}
 use Rattle.loading.specs.Loading.{opening}

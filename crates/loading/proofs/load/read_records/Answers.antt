@@ -1,6 +1,6 @@
 use Prim.Native.Nat.{suc, _≤_}
 use native.Mathlib.Omega.{arith}
-use mathlib.Core.Path.{_≡_, refl, ap, _∙_}
+use mathlib.Core.Path.{refl, ap, _∙_}
 use lib.ListN.{length}
 use Rattle.book.specs.Books.{held}
 use Rattle.loading.specs.Loading.{step}
