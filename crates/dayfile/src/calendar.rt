@@ -4,14 +4,14 @@ ghost use Rattle.dayfile.specs.Calendar.{days-in, leap-year, real-heading};
 ghost use Rattle.dayfile.specs.Headings.{Headings-are-made, Headings-are-their-fields, heading-of, same-fields};
 use crate::heading::Heading;
 
-pub fn is_leap_year(year: u16) -> bool
+fn is_leap_year(year: u16) -> bool
     ensures { λ r. ⌜ r ≡ leap-year year ⌝ }
 {
     year % 4 == 0 && (year % 100 != 0 || year % 400 == 0)
 }
 
 // How many days the month has; 31 for a number that is no month.
-pub fn days_in_month(year: u16, month: u8) -> u8
+fn days_in_month(year: u16, month: u8) -> u8
     ensures { λ r. ⌜ r ≡ days-in year month ⌝ }
 {
     match month {

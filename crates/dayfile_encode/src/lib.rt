@@ -42,9 +42,9 @@ fn eight_bytes(n: u64) -> [u8; 8]
     n.to_be_bytes()
 }
 
-pub fn encode_heading(heading: Heading) -> [u8; 10]
+fn bytes_of_heading(heading: Heading) -> [u8; 10]
     ensures bytes { λ r. ⌜ r ≡ heading-bytes heading ⌝ }
-    ensures back { λ r. ⌜ decoded-heading r ≡ Ok heading ⌝ }
+    ensures year { λ r. ⌜ two-bytes r 2 ≡ heading .year ⌝ }
 {
     let [y1, y0] = two_bytes(heading.year);
     [
@@ -59,6 +59,13 @@ pub fn encode_heading(heading: Heading) -> [u8; 10]
         heading.nodes,
         heading.interconnections,
     ]
+}
+
+pub fn encode_heading(heading: Heading) -> [u8; 10]
+    ensures bytes { λ r. ⌜ r ≡ heading-bytes heading ⌝ }
+    ensures back { λ r. ⌜ decoded-heading r ≡ Ok heading ⌝ }
+{
+    bytes_of_heading(heading)
 }
 
 pub fn encode_price(price: Price) -> [u8; 12]
@@ -108,22 +115,22 @@ pub fn encode_position(position: Position) -> [u8; 14]
     ]
 }
 
-pub fn encode_interconnection(x: Interconnection) -> [u8; 26]
-    ensures bytes { λ r. ⌜ r ≡ interconnection-bytes x ⌝ }
-    ensures back { λ r. ⌜ decoded-record r ≡ Ok (Record.Interconnection x) ⌝ }
+pub fn encode_interconnection(exchange: Interconnection) -> [u8; 26]
+    ensures bytes { λ r. ⌜ r ≡ interconnection-bytes exchange ⌝ }
+    ensures back { λ r. ⌜ decoded-record r ≡ Ok (Record.Interconnection exchange) ⌝ }
 {
-    let [a3, a2, a1, a0] = four_bytes(x.day_ahead_export);
-    let [b3, b2, b1, b0] = four_bytes(x.day_ahead_import);
-    let [c3, c2, c1, c0] = four_bytes(x.real_time_export);
-    let [d3, d2, d1, d0] = four_bytes(x.real_time_import);
-    let [p3, p2, p1, p0] = four_signed_bytes(x.imbalance_price);
+    let [a3, a2, a1, a0] = four_bytes(exchange.day_ahead_export);
+    let [b3, b2, b1, b0] = four_bytes(exchange.day_ahead_import);
+    let [c3, c2, c1, c0] = four_bytes(exchange.real_time_export);
+    let [d3, d2, d1, d0] = four_bytes(exchange.real_time_import);
+    let [p3, p2, p1, p0] = four_signed_bytes(exchange.imbalance_price);
     [
         b'I',
         b'X',
-        x.interconnection,
-        x.system,
-        x.node,
-        x.hour,
+        exchange.interconnection,
+        exchange.system,
+        exchange.node,
+        exchange.hour,
         a3,
         a2,
         a1,
