@@ -58,7 +58,7 @@ abbrev pub follow : (ℕ → Records → Result Records Fault) → Step → Resu
 follow next (goes-on offset b) = next offset b
 follow next (is-over answer) = answer
 
--- the records from an offset on, up to the end record: at most n of them
+-- the records from an offset on, up to the end record, in at most n turns; no load comes to 0 turns
 unfoldable pub records-from : ℕ → List ℕ → ℕ → Records → Result Records Fault
 records-from zero file offset b = Err (reading-at offset (plain UnknownMark))
 records-from (suc n) file offset b = follow (records-from n file) (step file offset b)
