@@ -1,6 +1,6 @@
 // The six kinds of record that a book holds, as values.
 ghost use mathlib.Core.Path.{_≡_};
-ghost use Rattle.dayfile.specs.Classes.{class-number};
+ghost use Rattle.dayfile.specs.Classes.{class-number, class-of};
 
 // What a position stands for: energy that is put into the system (generation, import) or taken out of it (load, export).
 #[derive(Clone, Copy, PartialEq, Eq)]
@@ -21,6 +21,19 @@ impl Class {
             Class::Load => 2,
             Class::Import => 3,
             Class::Export => 4,
+        }
+    }
+
+    // The class with this number, if there is one.
+    pub fn from_number(number: u8) -> Option<Class>
+        ensures { λ r. ⌜ r ≡ class-of number ⌝ }
+    {
+        match number {
+            1 => Some(Class::Generation),
+            2 => Some(Class::Load),
+            3 => Some(Class::Import),
+            4 => Some(Class::Export),
+            _ => None,
         }
     }
 }

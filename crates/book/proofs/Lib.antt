@@ -1,0 +1,4 @@
+pub mod Held
+pub mod Keeps
+pub mod Refused
+pub mod Unpriced

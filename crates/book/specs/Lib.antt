@@ -1,0 +1,4 @@
+pub mod Books
+pub mod Prices
+pub mod Readings
+pub mod Soundness
