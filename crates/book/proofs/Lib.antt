@@ -1,4 +1,3 @@
 pub mod Held
 pub mod Keeps
-pub mod Refused
 pub mod Unpriced

@@ -1,6 +1,6 @@
 -- What a book holds, and what the calls make of it.
 use Prim.Native.Nat.{ℕ, _+_}
-use mathlib.Core.List.{List, []}
+use mathlib.Core.List.{List, [], _∷_, _++_}
 use lib.ListN.{length}
 use Rattle.std.specs.Of.Vec.{vec-items}
 use Rattle.std.specs.declared.option.Option.{Option}
@@ -17,7 +17,7 @@ use Rattle.dayfile.specs.declared.heading.Heading.{Heading}
 use Rattle.dayfile.specs.declared.record.Record.{Record}
 use Rattle.dayfile.specs.declared.record.Record.the-variants.{Price, Position, Interconnection, Reserve, Failure, Fine}
 use Rattle.rows.specs.Kinds.{price-terms, position-terms, interconnection-terms, reserve-terms, failure-terms, fine-terms}
-use Rattle.rows.specs.Tables.{grown, row-refusal}
+use Rattle.rows.specs.Tables.{row-refusal}
 use Rattle.book.specs.declared.book.Book.{Book}
 use Rattle.book.specs.declared.counts.Counts.{Counts}
 
@@ -74,18 +74,14 @@ record-refusal b (Reserve p) = row-refusal reserve-terms (b .heading) (b .reserv
 record-refusal b (Failure p) = row-refusal failure-terms (b .heading) (b .failures) p
 record-refusal b (Fine p) = row-refusal fine-terms (b .heading) (b .fines) p
 
--- the records after a record came: one more, the last of its kind, unless it was refused
-abbrev pub taken : Records → Record → Option Refusal → Records
-taken b (Price p) reason = record { heading = b .heading; prices = grown reason (b .prices) p; positions = b .positions; interconnections = b .interconnections; reserves = b .reserves; failures = b .failures; fines = b .fines }
-taken b (Position p) reason = record { heading = b .heading; prices = b .prices; positions = grown reason (b .positions) p; interconnections = b .interconnections; reserves = b .reserves; failures = b .failures; fines = b .fines }
-taken b (Interconnection p) reason = record { heading = b .heading; prices = b .prices; positions = b .positions; interconnections = grown reason (b .interconnections) p; reserves = b .reserves; failures = b .failures; fines = b .fines }
-taken b (Reserve p) reason = record { heading = b .heading; prices = b .prices; positions = b .positions; interconnections = b .interconnections; reserves = grown reason (b .reserves) p; failures = b .failures; fines = b .fines }
-taken b (Failure p) reason = record { heading = b .heading; prices = b .prices; positions = b .positions; interconnections = b .interconnections; reserves = b .reserves; failures = grown reason (b .failures) p; fines = b .fines }
-taken b (Fine p) reason = record { heading = b .heading; prices = b .prices; positions = b .positions; interconnections = b .interconnections; reserves = b .reserves; failures = b .failures; fines = grown reason (b .fines) p }
-
--- the records with one more
+-- the records with one more, the last of its kind
 abbrev pub with-record : Records → Record → Records
-with-record b x = taken b x None
+with-record b (Price p) = record { heading = b .heading; prices = b .prices ++ p ∷ []; positions = b .positions; interconnections = b .interconnections; reserves = b .reserves; failures = b .failures; fines = b .fines }
+with-record b (Position p) = record { heading = b .heading; prices = b .prices; positions = b .positions ++ p ∷ []; interconnections = b .interconnections; reserves = b .reserves; failures = b .failures; fines = b .fines }
+with-record b (Interconnection p) = record { heading = b .heading; prices = b .prices; positions = b .positions; interconnections = b .interconnections ++ p ∷ []; reserves = b .reserves; failures = b .failures; fines = b .fines }
+with-record b (Reserve p) = record { heading = b .heading; prices = b .prices; positions = b .positions; interconnections = b .interconnections; reserves = b .reserves ++ p ∷ []; failures = b .failures; fines = b .fines }
+with-record b (Failure p) = record { heading = b .heading; prices = b .prices; positions = b .positions; interconnections = b .interconnections; reserves = b .reserves; failures = b .failures ++ p ∷ []; fines = b .fines }
+with-record b (Fine p) = record { heading = b .heading; prices = b .prices; positions = b .positions; interconnections = b .interconnections; reserves = b .reserves; failures = b .failures; fines = b .fines ++ p ∷ [] }
 
 -- a value for which a reason was looked for: the value where there is none, or the fault at its place
 abbrev pub unless : {X : Type 0} → Option Refusal → Place → X → Result X Fault

@@ -6,7 +6,7 @@ ghost use Rattle.std.specs.Options.{isSome};
 ghost use Rattle.std.specs.Slices.{found};
 ghost use Rattle.rows.specs.Tables.{first-place};
 ghost use Rattle.book.specs.Books.{answer, held};
-ghost use Rattle.book.specs.Readings.{corrected, correction, is-position-of, read-position, reading-in-range, reading-listed, reading-place, reading-refusal, reread-at, with-reading};
+ghost use Rattle.book.specs.Readings.{corrected, correction, correction-refusal, is-position-of, read-position, reading-in-range, reading-listed, reading-place, reading-refusal, reread-at, with-reading};
 use crate::book::Book;
 use crate::reading::Reading;
 use dayfile::heading::Heading;
@@ -110,12 +110,25 @@ impl Reading {
 }
 
 impl Book {
-    // Puts the reading into its position, if there is one, and says whether there was.
-    fn put_reading(&mut self, reading: Reading) -> bool
-        ensures value { λ r. ⌜ r ≡ isSome (read-position (held (now (self .entry)) .positions) reading) ⌝ }
-        ensures after { λ _. ⌜ held (now (self .exit)) ≡ with-reading (held (now (self .entry))) reading ⌝ }
+    // Why the reading cannot be put in the place of the one held, if so.
+    pub fn reading_refusal(&self, reading: Reading) -> Option<Refusal>
+        ensures { λ r. ⌜ r ≡ correction-refusal (held (now (self .entry))) reading ⌝ }
     {
-        replace_reading(self.positions.as_mut_slice(), reading)
+        if let Some(refusal) = reading.refusal_under(&self.heading) {
+            return Some(refusal);
+        }
+        if find_read(self.positions.as_slice(), reading).is_some() {
+            None
+        } else {
+            Some(Refusal::NoPosition)
+        }
+    }
+
+    // Puts the reading into its position, if there is one.
+    fn put_reading(&mut self, reading: Reading)
+        ensures { λ _. ⌜ held (now (self .exit)) ≡ with-reading (held (now (self .entry))) reading ⌝ }
+    {
+        let _ = replace_reading(self.positions.as_mut_slice(), reading);
     }
 
     // Puts the reading in the place of the one held, unless there is a reason against it.
@@ -123,13 +136,10 @@ impl Book {
         ensures value { λ r. ⌜ r ≡ answer (correction (held (now (self .entry))) reading) ⌝ }
         ensures after { λ _. ⌜ held (now (self .exit)) ≡ corrected (held (now (self .entry))) (correction (held (now (self .entry))) reading) ⌝ }
     {
-        if let Some(refusal) = reading.refusal_under(&self.heading) {
+        if let Some(refusal) = self.reading_refusal(reading) {
             return Err(Fault::new(refusal, reading.place()));
         }
-        if self.put_reading(reading) {
-            Ok(())
-        } else {
-            Err(Fault::new(Refusal::NoPosition, reading.place()))
-        }
+        self.put_reading(reading);
+        Ok(())
     }
 }

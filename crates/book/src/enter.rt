@@ -1,11 +1,13 @@
 // Making a book, and entering records into it.
 ghost use mathlib.Core.Path.{_≡_};
 ghost use Prim.Native.Nat.{_≤_};
+ghost use mathlib.Core.List.{[], _++_, _∷_};
+ghost use Rattle.rows.specs.Tables.{row-refusal};
 ghost use Rattle.std.specs.Of.Vec.{vec-cap, vec-items};
 ghost use Rattle.std.specs.Vec.{made};
+ghost use Rattle.std.specs.declared.option.Option.the-variants.{None};
 ghost use Rattle.dayfile.specs.Decoded.{decoded-heading};
-ghost use Rattle.rows.specs.Tables.{grown, row-refusal, verdict};
-ghost use Rattle.book.specs.Books.{admission, admitted, answer, entered, held, new-heading, no-records, opened, record-refusal, taken};
+ghost use Rattle.book.specs.Books.{admission, admitted, answer, entered, held, new-heading, no-records, opened, record-refusal, with-record};
 use crate::book::Book;
 use dayfile::decode::decode_heading;
 use dayfile::decode::decode_record;
@@ -31,18 +33,29 @@ use rows::table::refusal_after;
 use std::alloc::AllocError;
 use std::alloc::Global;
 
-// Adds `row` at the end, unless it is refused.
-fn enter_row<T: Row + Drop>(heading: &Heading, rows: &mut Vec<T>, row: T) -> Result<(), Refusal>
-    requires { ⌜ terms .room ≤ vec-cap (now rows) ⌝ }
-    ensures value { λ r. ⌜ r ≡ verdict (row-refusal terms (now (heading .entry)) (vec-items (now (rows .entry))) row) ⌝ }
-    ensures items { λ _. ⌜ vec-items (now (rows .exit)) ≡ grown (row-refusal terms (now (heading .entry)) (vec-items (now (rows .entry))) row) (vec-items (now (rows .entry))) row ⌝ }
+// What a new book has for a heading.
+fn new_heading() -> Heading
+    ensures { λ r. ⌜ r ≡ new-heading ⌝ }
+{
+    Heading {
+        year: 2016,
+        month: 1,
+        day: 1,
+        hours: 24,
+        accounts: 1,
+        nodes: 1,
+        interconnections: 0,
+    }
+}
+
+// Adds a row that is not refused at the end. The room is there: nothing is allocated.
+fn add_row<T: Row>(_heading: &Heading, rows: &mut Vec<T>, row: T)
+    requires room { ⌜ terms .room ≤ vec-cap (now rows) ⌝ }
+    requires free { ⌜ row-refusal terms (now «_heading») (vec-items (now rows)) row ≡ None ⌝ }
+    ensures items { λ _. ⌜ vec-items (now (rows .exit)) ≡ vec-items (now (rows .entry)) ++ row ∷ [] ⌝ }
     ensures capacity { λ _. ⌜ vec-cap (now (rows .exit)) ≡ vec-cap (now (rows .entry)) ⌝ }
 {
-    if let Some(refusal) = refusal_after(heading, rows.as_slice(), &row) {
-        return Err(refusal);
-    }
     rows.push_reserved(row);
-    Ok(())
 }
 
 impl Book {
@@ -50,15 +63,12 @@ impl Book {
     pub fn new(heap: Global) -> Result<Book, AllocError>
         ensures { λ r. ⌜ made r (λ book. held book ≡ no-records new-heading) ⌝ }
     {
-        let heading = Heading {
-            year: 2016,
-            month: 1,
-            day: 1,
-            hours: 24,
-            accounts: 1,
-            nodes: 1,
-            interconnections: 0,
-        };
+        Book::with_heading(heap, new_heading())
+    }
+
+    fn with_heading(heap: Global, heading: Heading) -> Result<Book, AllocError>
+        ensures { λ r. ⌜ made r (λ book. held book ≡ no-records heading) ⌝ }
+    {
         let prices = Vec::with_capacity(heap, PRICE_ROOM)?;
         let positions = Vec::with_capacity(heap, POSITION_ROOM)?;
         let interconnections = Vec::with_capacity(heap, INTERCONNECTION_ROOM)?;
@@ -89,19 +99,38 @@ impl Book {
         self.fines.clear();
     }
 
-    // Adds the record at the end of its table, unless it is refused.
-    fn take(&mut self, item: Record) -> Result<(), Refusal>
-        ensures value { λ r. ⌜ r ≡ verdict (record-refusal (held (now (self .entry))) item) ⌝ }
-        ensures after { λ _. ⌜ held (now (self .exit)) ≡ taken (held (now (self .entry))) item (record-refusal (held (now (self .entry))) item) ⌝ }
+    // Why the record cannot be entered, if so.
+    pub fn record_refusal(&self, item: &Record) -> Option<Refusal>
+        ensures { λ r. ⌜ r ≡ record-refusal (held (now (self .entry))) (now (item .entry)) ⌝ }
+    {
+        let heading = &self.heading;
+        match item {
+            Record::Price(p) => refusal_after(heading, self.prices.as_slice(), p),
+            Record::Position(p) => refusal_after(heading, self.positions.as_slice(), p),
+            Record::Interconnection(p) => refusal_after(
+                heading,
+                self.interconnections.as_slice(),
+                p,
+            ),
+            Record::Reserve(p) => refusal_after(heading, self.reserves.as_slice(), p),
+            Record::Failure(p) => refusal_after(heading, self.failures.as_slice(), p),
+            Record::Fine(p) => refusal_after(heading, self.fines.as_slice(), p),
+        }
+    }
+
+    // Adds a record that is not refused at the end of its table.
+    fn add(&mut self, item: Record)
+        requires { ⌜ record-refusal (held (now self)) item ≡ None ⌝ }
+        ensures { λ _. ⌜ held (now (self .exit)) ≡ with-record (held (now (self .entry))) item ⌝ }
     {
         let heading = self.heading;
         match item {
-            Record::Price(p) => enter_row(&heading, &mut self.prices, p),
-            Record::Position(p) => enter_row(&heading, &mut self.positions, p),
-            Record::Interconnection(p) => enter_row(&heading, &mut self.interconnections, p),
-            Record::Reserve(p) => enter_row(&heading, &mut self.reserves, p),
-            Record::Failure(p) => enter_row(&heading, &mut self.failures, p),
-            Record::Fine(p) => enter_row(&heading, &mut self.fines, p),
+            Record::Price(p) => add_row(&heading, &mut self.prices, p),
+            Record::Position(p) => add_row(&heading, &mut self.positions, p),
+            Record::Interconnection(p) => add_row(&heading, &mut self.interconnections, p),
+            Record::Reserve(p) => add_row(&heading, &mut self.reserves, p),
+            Record::Failure(p) => add_row(&heading, &mut self.failures, p),
+            Record::Fine(p) => add_row(&heading, &mut self.fines, p),
         }
     }
 
@@ -110,10 +139,11 @@ impl Book {
         ensures value { λ r. ⌜ r ≡ answer (admission (held (now (self .entry))) item) ⌝ }
         ensures after { λ _. ⌜ held (now (self .exit)) ≡ entered (held (now (self .entry))) (admission (held (now (self .entry))) item) ⌝ }
     {
-        match self.take(item) {
-            Ok(()) => Ok(()),
-            Err(refusal) => Err(Fault::new(refusal, place_of(&item))),
+        if let Some(refusal) = self.record_refusal(&item) {
+            return Err(Fault::new(refusal, place_of(&item)));
         }
+        self.add(item);
+        Ok(())
     }
 
     // Begins a day with the heading that the bytes say, and no record; or leaves all as it is.

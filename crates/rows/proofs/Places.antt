@@ -10,7 +10,9 @@ use lib.Seq.{take-all}
 use Rattle.std.specs.Options.{mapped}
 use Rattle.std.specs.declared.option.Option.{Option}
 use Rattle.std.specs.declared.option.Option.the-variants.{Some, None}
-use Rattle.rows.specs.Tables.{first-place}
+use lib.Dec.{ltb}
+use Rattle.std.proofs.shelf.Tests.{cond-false, cond-true, le-ltb, lt-ltb}
+use Rattle.rows.specs.Tables.{first-place, place-within}
 
 -- past one that does not pass the test, the search goes on
 past : (b : Bool) (o p q : Option ℕ) → cond b (Some 0) (mapped suc o) ≡ None → (o ≡ None → p ≡ q) → cond b (Some 0) (mapped suc p) ≡ mapped suc q
@@ -39,3 +41,9 @@ place-none-more t xs i d h n y = rw add-one (none-suc t xs i d h n y)
 
 pub place-none-all : {X : Type 0} (t : X → Bool) (xs : List X) (i : ℕ) → length xs ≤ i → first-place t (take i xs) ≡ None → first-place t xs ≡ None
 place-none-all t xs i h n = rw (take-all i xs h) at n
+
+pub within-here : (i n : ℕ) → i < n → Some i ≡ place-within i n
+within-here i n h = sym (cond-true (ltb i n) (Some i) None (lt-ltb i n h))
+
+pub within-end : (n : ℕ) → None ≡ place-within n n
+within-end n = sym (cond-false (ltb n n) (Some n) None (le-ltb n n (omega arith)))

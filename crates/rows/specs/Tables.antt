@@ -2,13 +2,11 @@
 use Prim.Native.Nat.{ℕ, suc}
 use mathlib.Core.Bool.{Bool, true, cond, not, _&&_}
 use mathlib.Core.List.{List, [], _∷_, _++_}
-use lib.Dec.{leb}
+use lib.Dec.{leb, ltb}
 use lib.ListN.{length}
 use Rattle.std.specs.Options.{isSome, mapped}
 use Rattle.std.specs.declared.option.Option.{Option}
 use Rattle.std.specs.declared.option.Option.the-variants.{Some, None}
-use Rattle.std.specs.declared.result.Result.{Result}
-use Rattle.std.specs.declared.result.Result.the-variants.{Ok, Err}
 use Rattle.faults.specs.declared.refusal.Refusal.{Refusal}
 use Rattle.faults.specs.declared.refusal.Refusal.the-variants.{OutOfRange, AboveHeading, KeyTaken, TableFull}
 use Rattle.dayfile.specs.declared.heading.Heading.{Heading}
@@ -29,6 +27,10 @@ abbrev pub first-place : {X : Type 0} → (X → Bool) → List X → Option ℕ
 first-place test [] = None
 first-place test (x ∷ xs) = cond (test x) (Some 0) (mapped suc (first-place test xs))
 
+-- a place in a list of this length, or none past its end
+abbrev pub place-within : ℕ → ℕ → Option ℕ
+place-within i n = cond (ltb i n) (Some i) None
+
 -- why a record cannot follow these, if so: the first of the four reasons, in this order
 abbrev pub row-refusal : {X : Type 0} → Terms X → Heading → List X → X → Option Refusal
 row-refusal terms heading xs x =
@@ -36,15 +38,6 @@ row-refusal terms heading xs x =
     (cond (not (terms .listed heading x)) (Some AboveHeading)
     (cond (isSome (first-place (terms .alike x) xs)) (Some KeyTaken)
     (cond (leb (terms .room) (length xs)) (Some TableFull) None)))
-
--- the table after the record came: one more at the end, unless it was refused
-abbrev pub grown : {X : Type 0} → Option Refusal → List X → X → List X
-grown None xs x = xs ++ x ∷ []
-grown (Some reason) xs x = xs
-
-abbrev pub verdict : Option Refusal → Result (Unit {0}) Refusal
-verdict None = Ok tt
-verdict (Some reason) = Err reason
 
 -- each of the second list is taken after the first list and those before it
 abbrev pub taken-after : {X : Type 0} → Terms X → Heading → List X → List X → Bool

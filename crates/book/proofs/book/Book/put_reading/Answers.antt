@@ -2,7 +2,6 @@ use mathlib.Core.Path.{_≡_, refl, sym, ap, _∙_}
 use mathlib.Core.List.{List}
 use native.Mathlib.Omega.{arith}
 use lib.ListN.{length}
-use Rattle.std.specs.Options.{isSome}
 use Rattle.std.proofs.shelf.Lists.{refilled-is}
 use Rattle.dayfile.specs.declared.record.Position.{Position}
 use Rattle.book.specs.Readings.{read-position, reread-at}
@@ -15,9 +14,7 @@ returns c =
     let v = c .as-mut-slice .ensures in
     let reading = c .args .reading in
     let long : length (c .replace-reading .last .positions) ≡ c .args .self .now .positions .len = omega (arith, c .replace-reading .kept .positions) in
-    record {
-      value = e .value ∙ ap (λ xs. isSome (read-position xs reading)) (v .value);
-      after = same-records _ _ refl refl
-          (refilled-is (c .args .self .now .positions) (c .replace-reading .last .positions) long ∙ e .after ∙ ap (λ xs. reread-at xs (read-position xs reading) (reading .«real_time»)) (v .value))
-          refl refl refl refl;
-    }
+    same-records _ _ refl refl
+    (refilled-is (c .args .self .now .positions) (c .replace-reading .last .positions) long ∙ e .after
+    ∙ ap (λ xs. reread-at xs (read-position xs reading) (reading .«real_time»)) (v .value))
+    refl refl refl refl

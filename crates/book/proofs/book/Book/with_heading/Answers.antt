@@ -1,6 +1,6 @@
 use mathlib.Core.Path.{refl}
 use Rattle.book.proofs.Held.{same-records}
-use Rattle.book.proofs.book.Book.new.Needs as need
+use Rattle.book.proofs.book.Book.with_heading.Needs as need
 
 pub returns : need.returns
 returns c =

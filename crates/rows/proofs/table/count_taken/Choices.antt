@@ -1,7 +1,7 @@
 use mathlib.Core.Path.{_≡_}
 use lib.ListN.{take, drop}
 use Rattle.rows.specs.Tables.{sound-table, taken-after}
-use Rattle.rows.proofs.table.are_sound.Given as given
+use Rattle.rows.proofs.table.count_taken.Given as given
 
 -- what is left to decide is whether the rest is taken after the first i
 abbrev pub Inv-loop-i : given.InvT-loop-i
