@@ -1,0 +1,3 @@
+// The ledger of notes: when its notes are sound, and what an issue adds to them.
+pub mod note;
+pub mod sound;
