@@ -83,14 +83,14 @@ rises y x small small′ low e =
     ⊎-elim
     (λ (a : ltb (y .issue) (x .issue) ≡ true). omega (arith, ltb-true (y .issue) (x .issue) a))
     (λ (b : (eqb (y .issue) (x .issue) && (ltb (y .code) (x .code) || (eqb (y .code) (x .code) && ltb (y .party) (x .party)))) ≡ true).
-        let p = and-parts (eqb (y .issue) (x .issue)) (ltb (y .code) (x .code) || (eqb (y .code) (x .code) && ltb (y .party) (x .party))) b in
-        let same = eqb-true (y .issue) (x .issue) (p .0) in
-        ⊎-elim
-        (λ (c : ltb (y .code) (x .code) ≡ true). omega (arith, ltb-true (y .code) (x .code) c))
-        (λ (d : (eqb (y .code) (x .code) && ltb (y .party) (x .party)) ≡ true).
-            let q = and-parts (eqb (y .code) (x .code)) (ltb (y .party) (x .party)) d in
-            omega (arith, eqb-true (y .code) (x .code) (q .0), ltb-true (y .party) (x .party) (q .1)))
-        (or-cases _ _ (p .1)))
+    let p = and-parts (eqb (y .issue) (x .issue)) (ltb (y .code) (x .code) || (eqb (y .code) (x .code) && ltb (y .party) (x .party))) b in
+    let same = eqb-true (y .issue) (x .issue) (p .0) in
+    ⊎-elim
+    (λ (c : ltb (y .code) (x .code) ≡ true). omega (arith, ltb-true (y .code) (x .code) c))
+    (λ (d : (eqb (y .code) (x .code) && ltb (y .party) (x .party)) ≡ true).
+    let q = and-parts (eqb (y .code) (x .code)) (ltb (y .party) (x .party)) d in
+    omega (arith, eqb-true (y .code) (x .code) (q .0), ltb-true (y .party) (x .party) (q .1)))
+    (or-cases _ _ (p .1)))
     (or-cases _ _ e)
 
 -- so there are not many of them

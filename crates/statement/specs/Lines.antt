@@ -13,7 +13,7 @@ use Rattle.statement.specs.declared.side.Side.{Side}
 
 -- the letter and the digit of a code, as A1
 abbrev pub code-name : Code → List ℕ
-code-name code = row-of code .letter ∷ 48 + row-of code .digit ∷ []
+code-name code = row-of code .letter ∷ (48 + row-of code .digit) ∷ []
 
 abbrev pub sided-line : Code → ℕ → Side × ℕ → List ℕ
 sided-line code party amount = code-name code ++ (word party ++ ((32 ∷ side-letter (amount .0) ∷ []) ++ (word (amount .1) ++ (10 ∷ []))))

@@ -4,8 +4,8 @@ ghost use Prim.Native.Nat.{_+_, _≤_};
 ghost use lib.ListN.{length};
 ghost use Rattle.statement.specs.Lines.{amount-line, note-line};
 ghost use Rattle.text.specs.Written.{Wrote};
-use codes::code::Code;
 use crate::side::side_and_magnitude;
+use codes::code::Code;
 use ledger::note::Note;
 use text::write::decimal_length;
 use text::write::put_bytes;
@@ -32,4 +32,26 @@ pub fn put_amount_line(buffer: &mut [u8], at: usize, code: Code, party: u8, amou
     let sided = put_bytes(buffer, numbered, &[b' ', side.letter()]);
     let measured = put_word(buffer, sided, magnitude);
     put_bytes(buffer, measured, b"\n")
+}
+
+// How long the line of a note is.
+pub fn note_line_length(note: &Note) -> usize
+    ensures value { λ r. ⌜ r ≡ length (note-line (now (note .entry))) ⌝ }
+    ensures bound { λ r. ⌜ r ≤ 47 ⌝ }
+{
+    match Code::from_number(note.code) {
+        Some(_code) => amount_line_length(note.party, note.amount),
+        None => 0,
+    }
+}
+
+// The line of a note; nothing where its code is none.
+pub fn put_note_line(buffer: &mut [u8], at: usize, note: &Note) -> usize
+    requires { ⌜ at + length (note-line (now note)) ≤ length (now buffer) ⌝ }
+    ensures { λ r. ⌜ Wrote (now (buffer .entry)) at (note-line (now (note .entry))) (now (buffer .exit)) r ⌝ }
+{
+    match Code::from_number(note.code) {
+        Some(code) => put_amount_line(buffer, at, code, note.party, note.amount),
+        None => at,
+    }
 }
