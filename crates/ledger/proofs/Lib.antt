@@ -1,2 +1,4 @@
 pub mod Soundness
 pub mod Keys
+pub mod Counting
+pub mod Adding

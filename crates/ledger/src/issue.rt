@@ -1,0 +1,136 @@
+// What an issue adds to the ledger.
+ghost use mathlib.Core.Bool.{true};
+ghost use mathlib.Core.Path.{_≡_};
+ghost use Prim.Native.Nat.{ℕ, _+_, _*_, _≤_};
+ghost use lib.IntN.{_-ℤ_};
+ghost use lib.ListN.{length};
+ghost use Rattle.std.specs.Joined.{joined};
+ghost use Rattle.codes.specs.Cells.{cell};
+ghost use Rattle.codes.specs.Parties.{party-numbers};
+ghost use Rattle.codes.specs.declared.code.Code.{Code};
+ghost use Rattle.codes.specs.declared.code.CodeRow.{CodeRow};
+ghost use Rattle.ledger.specs.Issues.{AllTakeable, TakenOff, Takeable, counted, issue-answer, issue-leaves, new-notes, note-for, noted, notes-of, row-notes, rows-notes};
+ghost use Rattle.ledger.specs.Notes.{known, sound-notes, within-limit};
+ghost use Rattle.text.specs.Written.{Wrote};
+use crate::note::Note;
+use codes::code::CODES;
+use codes::code::Code;
+use codes::code::CodeRow;
+use codes::party::PARTIES;
+use codes::table::Table;
+use faults::fault::Fault;
+use faults::refusal::Refusal;
+
+// Takes the note's amount off the cell of its code and party.
+fn take_off(rest: &mut Table, note: &Note)
+    requires { ⌜ Takeable (now rest) (now note) ⌝ }
+    ensures { λ _. ⌜ TakenOff (now (rest .entry)) (now (rest .exit)) (λ code party. counted code party (now (note .entry))) ⌝ }
+{
+    if let Some(code) = Code::from_number(note.code) {
+        let left = rest.amount(code, note.party) - note.amount;
+        rest.put(code, note.party, left);
+    }
+}
+
+// Takes every note's amount off its cell.
+fn take_off_all(rest: &mut Table, notes: &[Note])
+    requires { ⌜ AllTakeable (now rest) (now notes) ⌝ }
+    ensures { λ _. ⌜ TakenOff (now (rest .entry)) (now (rest .exit)) (noted (now (notes .entry))) ⌝ }
+{
+    for note in notes {
+        take_off(rest, note);
+    }
+}
+
+// What each cell has over its earlier notes.
+fn over(table: &Table, notes: &[Note]) -> Table
+    requires { ⌜ AllTakeable (now table) (now notes) ⌝ }
+    ensures { λ r. ⌜ TakenOff (now (table .entry)) r (noted (now (notes .entry))) ⌝ }
+{
+    let mut rest = Table { cells: table.cells };
+    take_off_all(&mut rest, notes);
+    rest
+}
+
+// How many notes an amount takes: none where it is 0.
+fn count_for(amount: i64) -> usize
+    ensures value { λ r. ⌜ ((number : ℕ) (code : Code) (party : ℕ) → r ≡ length (note-for number code party amount)) ⌝ }
+    ensures bound { λ r. ⌜ r ≤ 1 ⌝ }
+{
+    if amount != 0 { 1 } else { 0 }
+}
+
+// The note for an amount, if it is not 0.
+fn put_note(ledger: &mut [Note], at: usize, issue: u8, code: Code, party: u8, amount: i64) -> usize
+    requires { ⌜ at + length (note-for issue code party amount) ≤ length (now ledger) ⌝ }
+    ensures { λ r. ⌜ Wrote (now (ledger .entry)) at (note-for issue code party amount) (now (ledger .exit)) r ⌝ }
+{
+    if amount != 0 {
+        ledger[at] = Note {
+            issue,
+            code: code.number(),
+            party,
+            amount,
+        };
+        at + 1
+    } else {
+        at
+    }
+}
+
+// How many notes a code takes.
+fn count_row(rest: &Table, code: Code, parties: &[u8]) -> usize
+    requires { ⌜ length (now parties) ≤ 1000 ⌝ }
+    ensures value { λ r. ⌜ ((number : ℕ) → r ≡ length (row-notes number (cell (now (rest .entry))) (now (parties .entry)) code)) ⌝ }
+    ensures bound { λ r. ⌜ r ≤ length (now (parties .entry)) ⌝ }
+{
+    let mut count = 0;
+    for party in parties {
+        count += count_for(rest.amount(code, *party));
+    }
+    count
+}
+
+// The notes of a code.
+fn put_row(
+    ledger: &mut [Note],
+    at: usize,
+    issue: u8,
+    rest: &Table,
+    code: Code,
+    parties: &[u8],
+) -> usize
+    requires { ⌜ at + length (row-notes issue (cell (now rest)) (now parties) code) ≤ length (now ledger) ⌝ }
+    ensures { λ r. ⌜ Wrote (now (ledger .entry)) at (row-notes issue (cell (now (rest .entry))) (now (parties .entry)) code) (now (ledger .exit)) r ⌝ }
+{
+    let mut end = at;
+    for party in parties {
+        end = put_note(ledger, end, issue, code, *party, rest.amount(code, *party));
+    }
+    end
+}
+
+// How many notes the codes take.
+fn count_rows(rest: &Table, rows: &[CodeRow]) -> usize
+    requires { ⌜ length (now rows) ≤ 1000 ⌝ }
+    ensures value { λ r. ⌜ ((number : ℕ) → r ≡ length (joined (rows-notes number (cell (now (rest .entry)))) (now (rows .entry)))) ⌝ }
+    ensures bound { λ r. ⌜ r ≤ 1000 * length (now (rows .entry)) ⌝ }
+{
+    let mut count = 0;
+    for row in rows {
+        count += count_row(rest, row.code, &PARTIES);
+    }
+    count
+}
+
+// The notes of the codes.
+fn put_rows(ledger: &mut [Note], at: usize, issue: u8, rest: &Table, rows: &[CodeRow]) -> usize
+    requires { ⌜ at + length (joined (rows-notes issue (cell (now rest))) (now rows)) ≤ length (now ledger) ⌝ }
+    ensures { λ r. ⌜ Wrote (now (ledger .entry)) at (joined (rows-notes issue (cell (now (rest .entry)))) (now (rows .entry))) (now (ledger .exit)) r ⌝ }
+{
+    let mut end = at;
+    for row in rows {
+        end = put_row(ledger, end, issue, rest, row.code, &PARTIES);
+    }
+    end
+}
