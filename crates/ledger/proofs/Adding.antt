@@ -1,21 +1,33 @@
 -- Notes added, one after another.
+use mathlib.Core.Bool.{true, false}
 use mathlib.Core.List.{List, [], _∷_, _++_}
 use mathlib.Core.Path.{_≡_, refl, sym, ap, subst, _∙_}
-use Prim.Native.Nat.{ℕ, zero, suc, _+_, _<_, _≤_}
+use Prim.Native.Nat.{ℕ, zero, suc, _+_, _-_, _<_, _≤_}
 use native.Mathlib.Numerals.{add-one}
 use native.Mathlib.Omega.{arith}
+use lib.Dec.{leb}
 use lib.IntN.{ℤ, pos, negsuc}
 use lib.ListN.{drop, getD, length, set, take}
 use Rattle.std.proofs.shelf.Lists.{set-split}
+use Rattle.std.proofs.shelf.Tests.{cond-false, cond-true, le-leb, lt-leb}
+use Rattle.std.specs.Joined.{joined}
+use Rattle.std.specs.declared.result.Result.{Result}
+use Rattle.std.specs.declared.result.Result.the-variants.{Ok, Err}
+use Rattle.faults.specs.Places.{plain}
+use Rattle.faults.specs.declared.fault.Fault.{Fault}
+use Rattle.faults.specs.declared.refusal.Refusal.the-variants.{LedgerFull}
+use Rattle.codes.specs.Cells.{cell}
 use Rattle.codes.specs.Codes.{code-number}
+use Rattle.codes.specs.declared.table.Table.{Table}
+use Rattle.codes.proofs.Codes.{code-table}
 use Rattle.codes.specs.declared.code.Code.{Code}
 use Rattle.codes.specs.declared.code.Basis.the-variants.{Own}
 use Rattle.codes.specs.declared.code.Code.the-variants.{A1}
 use Rattle.codes.specs.declared.code.CodeRow.{CodeRow}
 use Rattle.codes.specs.declared.code.PartyKind.the-variants.{Account}
-use Rattle.text.specs.Written.{Wrote}
+use Rattle.text.specs.Written.{Wrote, written}
 use Rattle.text.proofs.Writing.{after, length-pieces-more, pieces-front, pieces-more}
-use Rattle.ledger.specs.Issues.{note-for, row-notes}
+use Rattle.ledger.specs.Issues.{TakenOff, issue-answer, issue-leaves, new-notes, note-for, noted, notes-of, row-notes, rows-notes}
 use Rattle.ledger.specs.declared.note.Note.{Note}
 
 pub note-none : (number : ℕ) (code : Code) (party : ℕ) (z : ℤ) → z ≡ pos 0 → note-for number code party z ≡ []
@@ -72,3 +84,30 @@ module _ (number : ℕ) (f : Code → ℕ → ℤ) (ps : List ℕ) (code : Code)
 -- what stands where a list of rows has none
 abbrev pub no-row : CodeRow
 no-row = record { code = A1; letter = 0; digit = 0; party = Account; basis = Own }
+
+-- the table of codes has the rows of all codes
+pub rows-are : (number : ℕ) (f : Code → ℕ → ℤ) → joined (rows-notes number f) code-table ≡ notes-of number f
+unfolding notes-of
+rows-are number f = refl
+
+-- what is over, by code and party
+pub rest-notes : (led : List Note) (count number : ℕ) (t r : Table) → TakenOff t r (noted (take count led)) → notes-of number (cell r) ≡ new-notes led count number t
+rest-notes led count number t r taken = ap (notes-of number) (λ i code party. taken .each code party i)
+
+pub new-fit : (led led′ new : List Note) (count end : ℕ) → Wrote led count new led′ end → (Ok (end - count) ≡ issue-answer led count new) × (led′ ≡ issue-leaves led count new)
+new-fit led led′ new count end w =
+    let yes : leb (count + length new) (length led) ≡ true = le-leb (count + length new) (length led) (w .room) in (
+      ap (λ n. Ok n) (omega (arith, w .next)) ∙ sym (cond-true (leb (count + length new) (length led)) (Ok (length new)) (Err (plain LedgerFull)) yes),
+      w .is ∙ sym (cond-true (leb (count + length new) (length led)) (written led count new) led yes),
+    )
+
+pub new-full : (led new : List Note) (count : ℕ) → length led < count + length new → (Err (plain LedgerFull) ≡ issue-answer led count new) × (led ≡ issue-leaves led count new)
+new-full led new count h =
+    let nay : leb (count + length new) (length led) ≡ false = lt-leb (count + length new) (length led) h in (
+      sym (cond-false (leb (count + length new) (length led)) (Ok (length new)) (Err (plain LedgerFull)) nay),
+      sym (cond-false (leb (count + length new) (length led)) (written led count new) led nay),
+    )
+
+-- `&ledger[0..count]` as the checker reads it
+pub front : (led : List Note) (count : ℕ) → take (count - 0) led ≡ take count led
+front led count = ap (λ n. take n led) (omega arith)

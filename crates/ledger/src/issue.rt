@@ -134,3 +134,44 @@ fn put_rows(ledger: &mut [Note], at: usize, issue: u8, rest: &Table, rows: &[Cod
     }
     end
 }
+
+// How many cells are not 0.
+fn count_notes(rest: &Table) -> usize
+    ensures { λ r. ⌜ ((number : ℕ) → r ≡ length (notes-of number (cell (now (rest .entry))))) ⌝ }
+{
+    count_rows(rest, &CODES)
+}
+
+// A note for each cell that is not 0.
+fn put_notes(ledger: &mut [Note], at: usize, issue: u8, rest: &Table) -> usize
+    requires { ⌜ at + length (notes-of issue (cell (now rest))) ≤ length (now ledger) ⌝ }
+    ensures { λ r. ⌜ Wrote (now (ledger .entry)) at (notes-of issue (cell (now (rest .entry)))) (now (ledger .exit)) r ⌝ }
+{
+    put_rows(ledger, at, issue, rest, &CODES)
+}
+
+// A note for each cell of `rest` that is not 0, behind the first entries of the ledger, if there is room for all of them.
+fn add_notes(ledger: &mut [Note], notes: usize, issue: u8, rest: &Table) -> Result<usize, Fault>
+    requires { ⌜ notes ≤ length (now ledger) ⌝ }
+    ensures answer { λ r. ⌜ r ≡ issue-answer (now (ledger .entry)) notes (notes-of issue (cell (now (rest .entry)))) ⌝ }
+    ensures after { λ _. ⌜ now (ledger .exit) ≡ issue-leaves (now (ledger .entry)) notes (notes-of issue (cell (now (rest .entry)))) ⌝ }
+{
+    if count_notes(rest) > ledger.len() - notes {
+        return Err(Fault::plain(Refusal::LedgerFull));
+    }
+    let end = put_notes(ledger, notes, issue, rest);
+    Ok(end - notes)
+}
+
+// Issues the table: a note for each cell that differs from the sum of its earlier notes, behind them. The notes and the
+// table are sound, and there is an issue left; the new one has the number `issues`. The answer is how many notes it added.
+pub fn issue(ledger: &mut [Note], notes: usize, issues: u8, table: &Table) -> Result<usize, Fault>
+    requires sound { ⌜ sound-notes (now ledger) notes issues ≡ true ⌝ }
+    requires limited { ⌜ within-limit (now table) ≡ true ⌝ }
+    requires left { ⌜ issues ≤ 3 ⌝ }
+    ensures answer { λ r. ⌜ r ≡ issue-answer (now (ledger .entry)) notes (new-notes (now (ledger .entry)) notes issues (now (table .entry))) ⌝ }
+    ensures after { λ _. ⌜ now (ledger .exit) ≡ issue-leaves (now (ledger .entry)) notes (new-notes (now (ledger .entry)) notes issues (now (table .entry))) ⌝ }
+{
+    let rest = over(table, &ledger[0..notes]);
+    add_notes(ledger, notes, issues, &rest)
+}
