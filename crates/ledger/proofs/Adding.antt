@@ -27,7 +27,8 @@ use Rattle.codes.specs.declared.code.CodeRow.{CodeRow}
 use Rattle.codes.specs.declared.code.PartyKind.the-variants.{Account}
 use Rattle.text.specs.Written.{Wrote, written}
 use Rattle.text.proofs.Writing.{after, length-pieces-more, pieces-front, pieces-more}
-use Rattle.ledger.specs.Issues.{TakenOff, issue-answer, issue-leaves, new-notes, note-for, noted, notes-of, row-notes, rows-notes}
+use Rattle.ledger.specs.Issues.{issue-answer, issue-leaves, new-notes, note-for, noted, notes-of, row-notes}
+use Rattle.ledger.specs.Steps.{TakenOff, rows-notes}
 use Rattle.ledger.specs.declared.note.Note.{Note}
 
 pub note-none : (number : ℕ) (code : Code) (party : ℕ) (z : ℤ) → z ≡ pos 0 → note-for number code party z ≡ []

@@ -19,7 +19,8 @@ use Rattle.codes.specs.Parties.{party-count, party-place}
 use Rattle.codes.specs.Sums.{sum-over}
 use Rattle.codes.specs.declared.code.Code.{Code}
 use Rattle.codes.specs.declared.table.Table.{Table}
-use Rattle.ledger.specs.Issues.{AllTakeable, counted, noted}
+use Rattle.ledger.specs.Issues.{counted, noted}
+use Rattle.ledger.specs.Steps.{AllTakeable}
 use Rattle.ledger.specs.Notes.{all-within, amount-limit, known, no-note, precedes, sound-after, sound-list, sound-next, sound-note, sound-notes, within, within-limit}
 use Rattle.ledger.specs.declared.note.Note.{Note}
 use Rattle.ledger.proofs.Keys.{Sound, key, rises, slot, sound-is}

@@ -24,7 +24,8 @@ use Rattle.codes.specs.declared.code.Code.{Code}
 use Rattle.codes.specs.declared.table.Table.{Table}
 use Rattle.codes.proofs.Codes.{same-code}
 use Rattle.codes.proofs.Places.{all-below, each-below}
-use Rattle.ledger.specs.Issues.{AllTakeable, TakenOff, Takeable, counted, noted}
+use Rattle.ledger.specs.Issues.{counted, noted}
+use Rattle.ledger.specs.Steps.{AllTakeable, TakenOff, Takeable}
 use Rattle.ledger.specs.Notes.{known, no-note}
 use Rattle.ledger.specs.declared.note.Note.{Note}
 

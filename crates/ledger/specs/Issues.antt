@@ -1,11 +1,10 @@
 -- What an issue adds to a ledger.
-use mathlib.Core.Bool.{true, cond, _&&_}
+use mathlib.Core.Bool.{cond, _&&_}
 use mathlib.Core.List.{List, [], _∷_}
-use mathlib.Core.Path.{_≡_}
-use Prim.Native.Nat.{ℕ, zero, suc, _+_, _<_, _≤_}
+use Prim.Native.Nat.{ℕ, zero, suc, _+_}
 use lib.Dec.{eqb, leb}
-use lib.IntN.{ℤ, pos, negsuc, natAbs, _-ℤ_}
-use lib.ListN.{getD, length, take}
+use lib.IntN.{ℤ, pos, negsuc, _-ℤ_}
+use lib.ListN.{length, take}
 use Rattle.std.specs.Joined.{joined}
 use Rattle.std.specs.declared.result.Result.{Result}
 use Rattle.std.specs.declared.result.Result.the-variants.{Ok, Err}
@@ -14,13 +13,11 @@ use Rattle.codes.specs.Codes.{all-codes, code-number}
 use Rattle.codes.specs.Parties.{party-numbers}
 use Rattle.codes.specs.Sums.{sum-over}
 use Rattle.codes.specs.declared.code.Code.{Code}
-use Rattle.codes.specs.declared.code.CodeRow.{CodeRow}
 use Rattle.codes.specs.declared.table.Table.{Table}
 use Rattle.faults.specs.Places.{plain}
 use Rattle.faults.specs.declared.fault.Fault.{Fault}
 use Rattle.faults.specs.declared.refusal.Refusal.the-variants.{LedgerFull}
 use Rattle.text.specs.Written.{written}
-use Rattle.ledger.specs.Notes.{known, no-note}
 use Rattle.ledger.specs.declared.note.Note.{Note}
 
 -- what a note counts for under a code and a party: its amount, if it is of both
@@ -52,24 +49,6 @@ notes-of number f = joined (row-notes number f party-numbers) all-codes
 -- the notes that an issue adds: what each cell has over its earlier notes
 abbrev pub new-notes : List Note → ℕ → ℕ → Table → List Note
 new-notes ledger count number t = notes-of number (λ code party. cell t code party -ℤ earlier ledger count code party)
-
--- every cell of u is that of t less what f has for its code and party
-pub record TakenOff (t u : Table) (f : Code → ℕ → ℤ) : Type 0 where
-  pub each : (code : Code) (party : ℕ) → cell u code party ≡ cell t code party -ℤ f code party
-
--- a note of a known code and party, and no cell that it leaves too large to hold
-pub record Takeable (t : Table) (n : Note) : Type 0 where
-  pub coded : known n ≡ true
-  pub small : (code : Code) (party : ℕ) → natAbs (cell t code party -ℤ counted code party n) ≤ 1000000000000000000
-
--- the same for notes, one after another
-pub record AllTakeable (t : Table) (notes : List Note) : Type 0 where
-  pub coded : (i : ℕ) → i < length notes → known (getD notes i no-note) ≡ true
-  pub small : (i : ℕ) (code : Code) (party : ℕ) → natAbs (cell t code party -ℤ noted (take i notes) code party) ≤ 1000000000000000000
-
--- the notes of a code's row in the table of codes
-abbrev pub rows-notes : ℕ → (Code → ℕ → ℤ) → CodeRow → List Note
-rows-notes number f row = row-notes number f party-numbers (row .code)
 
 -- an issue answers how many notes it added, or that the ledger has no room for them
 abbrev pub issue-answer : List Note → ℕ → List Note → Result ℕ Fault

@@ -9,8 +9,10 @@ ghost use Rattle.codes.specs.Cells.{cell};
 ghost use Rattle.codes.specs.Parties.{party-numbers};
 ghost use Rattle.codes.specs.declared.code.Code.{Code};
 ghost use Rattle.codes.specs.declared.code.CodeRow.{CodeRow};
-ghost use Rattle.ledger.specs.Issues.{AllTakeable, TakenOff, Takeable, counted, issue-answer, issue-leaves, new-notes, note-for, noted, notes-of, row-notes, rows-notes};
-ghost use Rattle.ledger.specs.Notes.{known, sound-notes, within-limit};
+ghost use Rattle.ledger.specs.Issues.{counted, issue-answer, issue-leaves, new-notes, note-for, noted, notes-of, row-notes};
+ghost use Rattle.ledger.specs.Steps.{AllTakeable, TakenOff, Takeable, rows-notes};
+ghost use Rattle.ledger.specs.Laws.{Halves-differ-within-the-limit, Issues-append, Issues-balance, Issues-bear-their-number, Issues-keep-notes-sound, Issues-reach-the-cells};
+ghost use Rattle.ledger.specs.Notes.{sound-notes, within-limit};
 ghost use Rattle.text.specs.Written.{Wrote};
 use crate::note::Note;
 use codes::code::CODES;
@@ -174,4 +176,16 @@ pub fn issue(ledger: &mut [Note], notes: usize, issues: u8, table: &Table) -> Re
 {
     let rest = over(table, &ledger[0..notes]);
     add_notes(ledger, notes, issues, &rest)
+}
+
+// What holds of every issue on sound notes.
+pub fn issues_stand() -> u8
+    ensures append { λ _. ⌜ Issues-append ⌝ }
+    ensures reach { λ _. ⌜ Issues-reach-the-cells ⌝ }
+    ensures balances { λ _. ⌜ Issues-balance ⌝ }
+    ensures bear { λ _. ⌜ Issues-bear-their-number ⌝ }
+    ensures keep { λ _. ⌜ Issues-keep-notes-sound ⌝ }
+    ensures halves { λ _. ⌜ Halves-differ-within-the-limit ⌝ }
+{
+    0
 }

@@ -26,7 +26,8 @@ use Rattle.ledger.proofs.Keys.{Sound, few, sound-is}
 use Rattle.text.specs.Written.{length-if-fits}
 use Rattle.statement.specs.Lines.{line-under, note-line}
 use Rattle.statement.specs.Sides.{side-and-magnitude}
-use Rattle.statement.specs.Statements.{day-name, first-line, last-line, line-in, of-issue, statement-room, statement-text}
+use Rattle.statement.specs.Statements.{day-name, first-line, last-line, of-issue, statement-room, statement-text}
+use Rattle.statement.specs.Steps.{line-in}
 use Rattle.statement.proofs.Lengths.{length-amount-line, magnitude-is}
 use Rattle.statement.proofs.Stated.{length-text, of-issue-front}
 

@@ -13,7 +13,8 @@ use Rattle.ledger.specs.Notes.{no-note}
 use Rattle.ledger.specs.declared.note.Note.{Note}
 use Rattle.statement.specs.Lines.{note-line}
 use Rattle.dayfile.specs.declared.heading.Heading.{Heading}
-use Rattle.statement.specs.Statements.{day-name, first-line, last-line, line-in, of-issue, one-in, statement-text}
+use Rattle.statement.specs.Statements.{day-name, first-line, last-line, of-issue, statement-text}
+use Rattle.statement.specs.Steps.{line-in, one-in}
 
 -- the lines, note by note
 pub lines-are : (number : ℕ) (ns : List Note) → joined (line-in number) ns ≡ joined note-line (of-issue number ns)

@@ -33,14 +33,6 @@ abbrev pub of-issue : ℕ → List Note → List Note
 of-issue number [] = []
 of-issue number (n ∷ ns) = cond (eqb (n .issue) number) (n ∷ of-issue number ns) (of-issue number ns)
 
--- 1 for a note of the issue, 0 for another
-abbrev pub one-in : ℕ → Note → ℕ
-one-in number n = cond (eqb (n .issue) number) 1 0
-
--- the line of a note of the issue, nothing for another
-abbrev pub line-in : ℕ → Note → List ℕ
-line-in number n = cond (eqb (n .issue) number) (note-line n) []
-
 -- DAY, date, hours and issue
 unfoldable pub first-line : Heading → ℕ → List ℕ
 first-line heading number = line (day-name heading) (heading .hours ∷ number ∷ [])

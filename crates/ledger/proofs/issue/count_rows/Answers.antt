@@ -6,7 +6,7 @@ use Rattle.std.proofs.shelf.Lists.{take-all}
 use Rattle.std.specs.Joined.{joined}
 use Rattle.codes.specs.Cells.{cell}
 use Rattle.text.proofs.Writing.{length-pieces-more}
-use Rattle.ledger.specs.Issues.{rows-notes}
+use Rattle.ledger.specs.Steps.{rows-notes}
 use Rattle.ledger.proofs.Adding.{no-row}
 use Rattle.ledger.proofs.issue.count_rows.Needs as need
 

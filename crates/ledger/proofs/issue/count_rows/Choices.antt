@@ -3,7 +3,7 @@ use Prim.Native.Nat.{ℕ, _*_, _≤_}
 use lib.ListN.{length, take}
 use Rattle.std.specs.Joined.{joined}
 use Rattle.codes.specs.Cells.{cell}
-use Rattle.ledger.specs.Issues.{rows-notes}
+use Rattle.ledger.specs.Steps.{rows-notes}
 use Rattle.ledger.proofs.issue.count_rows.Given as given
 
 abbrev pub Inv-loop-row : given.InvT-loop-row

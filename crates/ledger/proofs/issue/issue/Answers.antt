@@ -3,7 +3,8 @@ use native.Mathlib.Omega.{arith}
 use lib.Dec.{leb}
 use lib.ListN.{length, take}
 use Rattle.std.proofs.shelf.Tests.{and-parts, leb-true}
-use Rattle.ledger.specs.Issues.{AllTakeable, TakenOff, issue-answer, issue-leaves, noted}
+use Rattle.ledger.specs.Issues.{issue-answer, issue-leaves, noted}
+use Rattle.ledger.specs.Steps.{AllTakeable, TakenOff}
 use Rattle.ledger.specs.Notes.{sound-list}
 use Rattle.ledger.proofs.Adding.{front, rest-notes}
 use Rattle.ledger.proofs.Bounds.{takeable}

@@ -7,7 +7,7 @@ use Rattle.std.specs.Joined.{joined}
 use Rattle.codes.specs.Cells.{cell}
 use Rattle.text.specs.Written.{Wrote}
 use Rattle.text.proofs.Writing.{after, length-pieces-more, none, pieces-front, pieces-more}
-use Rattle.ledger.specs.Issues.{rows-notes}
+use Rattle.ledger.specs.Steps.{rows-notes}
 use Rattle.ledger.proofs.Adding.{no-row}
 use Rattle.ledger.proofs.issue.put_rows.Needs as need
 

@@ -2,7 +2,7 @@ use lib.ListN.{take}
 use Rattle.std.specs.Joined.{joined}
 use Rattle.codes.specs.Cells.{cell}
 use Rattle.text.specs.Written.{Wrote}
-use Rattle.ledger.specs.Issues.{rows-notes}
+use Rattle.ledger.specs.Steps.{rows-notes}
 use Rattle.ledger.proofs.issue.put_rows.Given as given
 
 abbrev pub Inv-loop-row : given.InvT-loop-row

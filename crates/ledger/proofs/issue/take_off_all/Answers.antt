@@ -1,6 +1,7 @@
 use mathlib.Core.Path.{refl, subst}
 use Rattle.std.proofs.shelf.Lists.{take-all}
-use Rattle.ledger.specs.Issues.{TakenOff, noted}
+use Rattle.ledger.specs.Issues.{noted}
+use Rattle.ledger.specs.Steps.{TakenOff}
 use Rattle.ledger.proofs.Counting.{taken-more, taken-none, takeable-next}
 use Rattle.ledger.proofs.issue.take_off_all.Needs as need
 

@@ -1,5 +1,6 @@
 use lib.ListN.{take}
-use Rattle.ledger.specs.Issues.{TakenOff, noted}
+use Rattle.ledger.specs.Issues.{noted}
+use Rattle.ledger.specs.Steps.{TakenOff}
 use Rattle.ledger.proofs.issue.take_off_all.Given as given
 
 abbrev pub Inv-loop-note : given.InvT-loop-note

@@ -5,7 +5,7 @@ use Rattle.std.proofs.shelf.Lists.{take-all}
 use Rattle.std.specs.Joined.{joined}
 use Rattle.ledger.specs.Notes.{no-note}
 use Rattle.text.proofs.Writing.{length-pieces-more}
-use Rattle.statement.specs.Statements.{line-in}
+use Rattle.statement.specs.Steps.{line-in}
 use Rattle.statement.proofs.issued.lines_length.Needs as need
 
 pub loop-note-again : need.loop-note-again

@@ -2,7 +2,7 @@ use mathlib.Core.Path.{_≡_}
 use Prim.Native.Nat.{_*_, _≤_}
 use lib.ListN.{length, take}
 use Rattle.std.specs.Joined.{joined}
-use Rattle.statement.specs.Statements.{line-in}
+use Rattle.statement.specs.Steps.{line-in}
 use Rattle.statement.proofs.issued.lines_length.Given as given
 
 abbrev pub Inv-loop-note : given.InvT-loop-note

@@ -7,7 +7,7 @@ use Rattle.std.specs.Joined.{joined}
 use Rattle.ledger.specs.Notes.{no-note}
 use Rattle.text.specs.Written.{Wrote}
 use Rattle.text.proofs.Writing.{after, length-pieces-more, none, pieces-front, pieces-more}
-use Rattle.statement.specs.Statements.{line-in}
+use Rattle.statement.specs.Steps.{line-in}
 use Rattle.statement.proofs.issued.put_lines.Needs as need
 
 pub loop-note-holds : need.loop-note-holds

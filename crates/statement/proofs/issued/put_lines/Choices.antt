@@ -1,7 +1,7 @@
 use lib.ListN.{take}
 use Rattle.std.specs.Joined.{joined}
 use Rattle.text.specs.Written.{Wrote}
-use Rattle.statement.specs.Statements.{line-in}
+use Rattle.statement.specs.Steps.{line-in}
 use Rattle.statement.proofs.issued.put_lines.Given as given
 
 abbrev pub Inv-loop-note : given.InvT-loop-note

@@ -5,7 +5,8 @@ use lib.ListN.{length}
 use Rattle.std.specs.Joined.{joined}
 use Rattle.text.specs.Written.{Wrote}
 use Rattle.text.proofs.Writing.{after}
-use Rattle.statement.specs.Statements.{first-line, last-line, line-in, statement-text}
+use Rattle.statement.specs.Statements.{first-line, last-line, statement-text}
+use Rattle.statement.specs.Steps.{line-in}
 use Rattle.statement.proofs.Stated.{length-text, text-is}
 use Rattle.statement.proofs.issued.put_text.Needs as need
 
