@@ -17,18 +17,18 @@ use Rattle.std.specs.declared.option.Option.the-variants.{None, Some}
 use Rattle.text.specs.Lines.{line, words}
 use Rattle.text.specs.Written.{Wrote, left-if-fits, length-if-fits, written}
 
-length-front : (buffer : List ℕ) (at : ℕ) → at ≤ length buffer → length (take at buffer) ≡ at
+length-front : {X : Type 0} (buffer : List X) (at : ℕ) → at ≤ length buffer → length (take at buffer) ≡ at
 length-front buffer at h = rw (length-take at buffer) (omega arith)
 
-length-written : (buffer : List ℕ) (at : ℕ) (text : List ℕ) → at + length text ≤ length buffer → length (written buffer at text) ≡ length buffer
+length-written : {X : Type 0} (buffer : List X) (at : ℕ) (text : List X) → at + length text ≤ length buffer → length (written buffer at text) ≡ length buffer
 length-written buffer at text h = simp (length-append, length-take, length-drop) (omega arith)
 
 -- two pieces, one after the other, are one
-written-written : (buffer : List ℕ) (at : ℕ) (xs ys : List ℕ) (m : ℕ) → m ≡ at + length xs → at + length xs ≤ length buffer → written (written buffer at xs) m ys ≡ written buffer at (xs ++ ys)
-written-written buffer at xs ys m e h =
-    let P : List ℕ = take at buffer ++ xs in
-    let Q : List ℕ = drop (at + length xs) buffer in
-    let D : List ℕ = drop (at + length (xs ++ ys)) buffer in
+written-written : {X : Type 0} (buffer : List X) (at : ℕ) (xs ys : List X) (m : ℕ) → m ≡ at + length xs → at + length xs ≤ length buffer → written (written buffer at xs) m ys ≡ written buffer at (xs ++ ys)
+written-written {X} buffer at xs ys m e h =
+    let P : List X = take at buffer ++ xs in
+    let Q : List X = drop (at + length xs) buffer in
+    let D : List X = drop (at + length (xs ++ ys)) buffer in
     let w : written buffer at xs ≡ P ++ Q = sym (append-assoc (take at buffer) xs Q) in
     let lp : length P ≡ m = length-append (take at buffer) xs ∙ ap (λ n. n + length xs) (length-front buffer at (omega arith)) ∙ sym e in
     let t : take m (written buffer at xs) ≡ P = ap (take m) w ∙ take-at P Q m lp in
@@ -37,8 +37,8 @@ written-written buffer at xs ys m e h =
     ∙ ap (λ k. drop k buffer) (omega (arith, length-append xs ys)) in
     (λ i. t i ++ (ys ++ d i)) ∙ append-assoc (take at buffer) xs (ys ++ D) ∙ ap (λ z. take at buffer ++ z) (sym (append-assoc xs ys D))
 
-pub after : {buffer buffer′ buffer″ : List ℕ} {at m n : ℕ} (xs ys : List ℕ) → Wrote buffer at xs buffer′ m → Wrote buffer′ m ys buffer″ n → Wrote buffer at (xs ++ ys) buffer″ n
-after {buffer} {buffer′} {buffer″} {at} {m} {n} xs ys p q =
+pub after : {X : Type 0} {buffer buffer′ buffer″ : List X} {at m n : ℕ} (xs ys : List X) → Wrote buffer at xs buffer′ m → Wrote buffer′ m ys buffer″ n → Wrote buffer at (xs ++ ys) buffer″ n
+after {X} {buffer} {buffer′} {buffer″} {at} {m} {n} xs ys p q =
     let k : length buffer′ ≡ length buffer = ap length (p .is) ∙ length-written buffer at xs (p .room) in
     record {
       is = q .is ∙ ap (λ b. written b m ys) (p .is) ∙ written-written buffer at xs ys m (p .next) (p .room);
@@ -47,7 +47,7 @@ after {buffer} {buffer′} {buffer″} {at} {m} {n} xs ys p q =
     }
 
 -- nothing written
-pub none : (buffer : List ℕ) (at : ℕ) → at ≤ length buffer → Wrote buffer at [] buffer at
+pub none : {X : Type 0} (buffer : List X) (at : ℕ) → at ≤ length buffer → Wrote buffer at [] buffer at
 none buffer at h = record { is = sym (ap (λ n. take at buffer ++ drop n buffer) (add-zero at) ∙ take-append-drop at buffer); next = omega arith; room = omega arith }
 
 -- a write to a part of the slice
@@ -59,14 +59,14 @@ pub length-decimal-step : (n : ℕ) → 10 ≤ n → n < 2 ^ 64 → length (deci
 length-decimal-step n p q = ap length (decimal-step n p q) ∙ length-push (decimal (n / 10)) (48 + n % 10)
 
 -- a piece for each element: the pieces of one more element
-module _ {X : Type 0} (f : X → List ℕ) (xs : List X) (d : X) where
+module _ {X Y : Type 0} (f : X → List Y) (xs : List X) (d : X) where
   pub pieces-more : (i : ℕ) → i < length xs → joined f (take (i + 1) xs) ≡ joined f (take i xs) ++ f (getD xs i d)
   pieces-more i h = ap (joined f) (take-more xs i d h) ∙ sym (joined-more f [] (take i xs) (getD xs i d))
 
   pub length-pieces-more : (i : ℕ) → i < length xs → length (joined f (take (i + 1) xs)) ≡ length (joined f (take i xs)) + length (f (getD xs i d))
   length-pieces-more i h = ap length (pieces-more i h) ∙ length-append (joined f (take i xs)) (f (getD xs i d))
 
-pub pieces-front : {X : Type 0} (f : X → List ℕ) (k : ℕ) (xs : List X) → length (joined f (take k xs)) ≤ length (joined f xs)
+pub pieces-front : {X Y : Type 0} (f : X → List Y) (k : ℕ) (xs : List X) → length (joined f (take k xs)) ≤ length (joined f xs)
 pieces-front f zero xs = omega arith
 pieces-front f (suc k) [] = omega arith
 pieces-front f (suc k) (x ∷ xs) = simp length-append (omega (arith, pieces-front f k xs))

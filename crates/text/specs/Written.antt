@@ -1,4 +1,4 @@
--- Text written into a buffer.
+-- Text written into a buffer, or anything else into a lent slice.
 use mathlib.Core.Bool.{cond}
 use mathlib.Core.List.{List, _++_}
 use mathlib.Core.Path.{_≡_}
@@ -9,11 +9,11 @@ use Rattle.std.specs.declared.option.Option.{Option}
 use Rattle.std.specs.declared.option.Option.the-variants.{None, Some}
 
 -- the buffer with text from an index on
-abbrev pub written : List ℕ → ℕ → List ℕ → List ℕ
+abbrev pub written : {X : Type 0} → List X → ℕ → List X → List X
 written buffer at text = take at buffer ++ (text ++ drop (at + length text) buffer)
 
 -- text was written from an index on, which left `after` and ended at `end`
-pub record Wrote (before : List ℕ) (at : ℕ) (text after : List ℕ) (end : ℕ) : Type 0 where
+pub record Wrote {X : Type 0} (before : List X) (at : ℕ) (text after : List X) (end : ℕ) : Type 0 where
   pub is : after ≡ written before at text
   pub next : end ≡ at + length text
   pub room : at + length text ≤ length before

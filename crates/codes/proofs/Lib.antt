@@ -1,0 +1,4 @@
+pub mod Codes
+pub mod Places
+pub mod Puts
+pub mod Laws

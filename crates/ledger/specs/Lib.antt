@@ -1,0 +1,4 @@
+pub mod Notes
+pub mod Issues
+pub mod Steps
+pub mod Laws

@@ -1,0 +1,4 @@
+pub mod Sides
+pub mod Lines
+pub mod Statements
+pub mod Steps
