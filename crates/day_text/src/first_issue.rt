@@ -26,7 +26,7 @@ fn cells_in(table: &Table) -> usize
 }
 
 // Issues the table into an empty ledger with room for every cell, and answers how many notes there are.
-pub(crate) fn issue_first(ledger: &mut [Note], table: &Table) -> usize
+pub fn issue_first(ledger: &mut [Note], table: &Table) -> usize
     requires room { ⌜ cell-count ≤ length (now ledger) ⌝ }
     requires small { ⌜ ((code : Code) (party : ℕ) → natAbs (cell (now table) code party) ≤ amount-limit / 2) ⌝ }
     ensures notes { λ r. ⌜ take r (now (ledger .exit)) ≡ notes-of 0 (cell (now (table .entry))) ⌝ }
@@ -42,7 +42,7 @@ pub(crate) fn issue_first(ledger: &mut [Note], table: &Table) -> usize
 }
 
 // The statement of the first issue, for which there is room.
-pub(crate) fn state_first(
+pub fn state_first(
     heading: &Heading,
     ledger: &[Note],
     notes: usize,
