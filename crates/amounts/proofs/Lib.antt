@@ -1,0 +1,4 @@
+pub mod Products
+pub mod Adding
+pub mod Arrays
+pub mod Prices
