@@ -20,16 +20,16 @@ at-least-zero (negsuc n) = pos 0
 abbrev pub failing : Failure → Reserve → ℤ
 failing f x = cond (eqb (x .unit) (f .unit) && eqb (x .kind) (f .kind)) (failed-term x) (pos 0)
 
--- an account's sum over all hours of the day
-abbrev pub failed-sum : Records → Failure → ℕ → ℤ
-failed-sum r f account = sum-over (λ x. owned-by (x .account) account (failing f x)) (r .reserves)
+-- an account's sum of a unit and kind that failed, over all hours of the day
+abbrev pub failed-among : List Reserve → Failure → ℕ → ℤ
+failed-among reserves f account = sum-over (λ x. owned-by (x .account) account (failing f x)) reserves
 
--- the larger of 0 and that sum, once for the whole day
-abbrev pub penalty : Records → ℕ → Failure → ℤ
-penalty r account f = at-least-zero (failed-sum r f account)
+-- the larger of 0 and that sum, taken once for the whole day
+abbrev pub penalty-among : List Reserve → ℕ → Failure → ℤ
+penalty-among reserves account f = at-least-zero (failed-among reserves f account)
 
 abbrev pub penalties : Records → ℕ → ℤ
-penalties r account = sum-over (penalty r account) (r .failures)
+penalties r account = sum-over (penalty-among (r .reserves) account) (r .failures)
 
 abbrev pub all-penalties : Records → ℤ
 all-penalties r = sum-over (penalties r) (accounts r)

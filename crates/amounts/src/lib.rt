@@ -1,6 +1,7 @@
 // What the records of a day come to.
 pub mod grid;
 pub mod market;
+pub mod penalties;
 pub mod purchases;
 pub mod scope;
 pub mod sums;
