@@ -1,0 +1,2 @@
+// The sheet of an hour and the table of a day, under any sharing rule.
+mod adding;
