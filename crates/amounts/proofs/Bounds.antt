@@ -114,27 +114,27 @@ abbrev pub size : Records → ℕ → ℕ
 size r h = size-p r h + size-x r h + size-r r h
 
 module _ (r : Records) (s : Sound r) where
-  positions-le : (market : Market) (h a : ℕ) → natAbs (energy r market h a) ≤ size-p r h
+  pub positions-le : (market : Market) (h a : ℕ) → natAbs (energy r market h a) ≤ size-p r h
   positions-le market h a =
       sum-le (λ x. owned-by (x .account) a (cond (eqb (x .hour) h) (position-term (r .prices) market x) (pos 0))) _ (r .positions)
       (all-map ValidPosition _ (λ x v. owned-counted-le (eqb (x .account) a) (eqb (x .hour) h) (position-term (r .prices) market x) 20000000000000 (position-le (r .prices) market x (s .prices) v)) (r .positions) (s .positions))
 
-  reserves-le : (market : Market) (h a : ℕ) → natAbs (reserve r market h a) ≤ size-r r h
+  pub reserves-le : (market : Market) (h a : ℕ) → natAbs (reserve r market h a) ≤ size-r r h
   reserves-le market h a =
       sum-le (λ x. owned-by (x .account) a (cond (eqb (x .hour) h) (reserve-term market x) (pos 0))) _ (r .reserves)
       (all-map ValidReserve _ (λ x v. owned-counted-le (eqb (x .account) a) (eqb (x .hour) h) (reserve-term market x) 20000000000000 (reserve-le market x v)) (r .reserves) (s .reserves))
 
-  exchanges-le : (market : Market) (h : ℕ) → natAbs (exchange r market h) ≤ size-x r h
+  pub exchanges-le : (market : Market) (h : ℕ) → natAbs (exchange r market h) ≤ size-x r h
   exchanges-le market h =
       sum-le (λ x. cond (eqb (x .hour) h) (exchange-term (r .prices) market x) (pos 0)) _ (r .interconnections)
       (all-map ValidInterconnection _ (λ x v. counted-le (eqb (x .hour) h) (exchange-term (r .prices) market x) 80000000000000 (exchange-le (r .prices) market x (s .prices) v)) (r .interconnections) (s .interconnections))
 
-  values-le : (h : ℕ) → natAbs (value-of-imbalance r h) ≤ size-x r h
+  pub values-le : (h : ℕ) → natAbs (value-of-imbalance r h) ≤ size-x r h
   values-le h =
       sum-le (λ x. cond (eqb (x .hour) h) (imbalance-value (r .prices) x) (pos 0)) _ (r .interconnections)
       (all-map ValidInterconnection _ (λ x v. counted-le (eqb (x .hour) h) (imbalance-value (r .prices) x) 80000000000000 (value-le (r .prices) x (s .prices) v)) (r .interconnections) (s .interconnections))
 
-  imbalances-le : (h system : ℕ) → natAbs (imbalance r h system) ≤ size-x r h
+  pub imbalances-le : (h system : ℕ) → natAbs (imbalance r h system) ≤ size-x r h
   imbalances-le h system =
       sum-le (λ x. owned-by (x .system) system (cond (eqb (x .hour) h) (imbalance-term x) (pos 0))) _ (r .interconnections)
       (all-map ValidInterconnection _ (λ x v. owned-counted-le (eqb (x .system) system) (eqb (x .hour) h) (imbalance-term x) 80000000000000 (omega (arith, imbalance-le x v))) (r .interconnections) (s .interconnections))
@@ -150,13 +150,13 @@ module _ (r : Records) (s : Sound r) where
       by-owner (λ x. x .account) (λ x. cond (eqb (x .hour) h) (reserve-term market x) (pos 0)) 1 (r .heading .accounts) (r .reserves)
       (all-map (λ x. Listed r (x .account)) _ (λ x p. (p .0, omega (arith, p .1))) (r .reserves) (s .reserve-accounts))
 
-  all-energy-le : (market : Market) (h : ℕ) → natAbs (sum-over (energy r market h) (accounts r)) ≤ size-p r h
+  pub all-energy-le : (market : Market) (h : ℕ) → natAbs (sum-over (energy r market h) (accounts r)) ≤ size-p r h
   all-energy-le market h =
       rw (all-energy market h)
       (sum-le (λ x. cond (eqb (x .hour) h) (position-term (r .prices) market x) (pos 0)) _ (r .positions)
       (all-map ValidPosition _ (λ x v. counted-le (eqb (x .hour) h) (position-term (r .prices) market x) 20000000000000 (position-le (r .prices) market x (s .prices) v)) (r .positions) (s .positions)))
 
-  all-reserve-le : (market : Market) (h : ℕ) → natAbs (sum-over (reserve r market h) (accounts r)) ≤ size-r r h
+  pub all-reserve-le : (market : Market) (h : ℕ) → natAbs (sum-over (reserve r market h) (accounts r)) ≤ size-r r h
   all-reserve-le market h =
       rw (all-reserve market h)
       (sum-le (λ x. cond (eqb (x .hour) h) (reserve-term market x) (pos 0)) _ (r .reserves)

@@ -1,2 +1,5 @@
 pub mod Known
 pub mod Rows
+pub mod PartyRows
+pub mod Lacking
+pub mod Shares

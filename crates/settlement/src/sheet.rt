@@ -1,0 +1,89 @@
+// The sheet of an hour.
+ghost use mathlib.Core.Bool.{true, false};
+ghost use mathlib.Core.Path.{_≡_};
+ghost use Prim.Native.Nat.{ℕ, _≤_};
+ghost use lib.ListN.{length};
+ghost use Rattle.book.specs.Books.{held};
+ghost use Rattle.codes.specs.declared.code.Basis.the-variants.{Purchases};
+ghost use Rattle.codes.specs.declared.code.Code.{Code};
+ghost use Rattle.amounts.specs.Amounts.{lacking, lacks, weights};
+ghost use Rattle.amounts.specs.Valid.{Sound};
+ghost use Rattle.settlement.specs.Grown.{Grown, Room, RoomIn, RowAdded};
+ghost use Rattle.settlement.specs.Sheets.{sheet};
+use crate::own::add_own;
+use crate::shared::add_shared;
+use crate::shared::code_at;
+use amounts::grid::PriceGrid;
+use amounts::purchases::put_purchases;
+use book::book::Book;
+use codes::code::Basis;
+use codes::code::CODE_COUNT;
+use codes::code::Code;
+use codes::table::Table;
+use sharing::rule::Sharing;
+
+// Writes the weights of an hour, account 1 first.
+pub(crate) fn put_weights(book: &Book, hour: u8, purchases: &mut [u64])
+    requires sound { ⌜ Sound (held (now book)) ⌝ }
+    requires places { ⌜ length (now purchases) ≡ now book .heading .accounts ⌝ }
+    ensures { λ _. ⌜ now (purchases .exit) ≡ weights Purchases (held (now (book .entry))) hour ⌝ }
+{
+    put_purchases(book.positions.as_slice(), hour, purchases);
+}
+
+// Adds the row of a code.
+fn add_code<'a, R: Sharing>(
+    book: &Book,
+    prices: &'a PriceGrid<'a>,
+    hour: u8,
+    rule: &R,
+    purchases: &[u64],
+    shares: &mut [i64],
+    code: Code,
+    table: &mut Table,
+)
+    requires sound { ⌜ Sound (held (now book)) ⌝ }
+    requires priced { ⌜ now (now prices .prices) ≡ held (now book) .prices ⌝ }
+    requires weighed { ⌜ now purchases ≡ weights Purchases (held (now book)) hour ⌝ }
+    requires borne { ⌜ lacks (held (now book)) hour code ≡ false ⌝ }
+    requires places { ⌜ length (now shares) ≡ now book .heading .accounts ⌝ }
+    requires room { ⌜ RoomIn (now table) code ⌝ }
+    ensures { λ _. ⌜ RowAdded (now (table .entry)) (now (table .exit)) code (sheet (R·Sharing .parts (now (rule .entry))) (held (now (book .entry))) hour code) ⌝ }
+{
+    match code.row().basis {
+        Basis::Own => add_own(book, prices, hour, code, table),
+        Basis::Purchases => add_shared(book, prices, hour, rule, purchases, shares, code, table),
+    }
+}
+
+// Adds the sheet of an hour to a table.
+pub(crate) fn add_sheet<'a, R: Sharing>(
+    book: &Book,
+    prices: &'a PriceGrid<'a>,
+    hour: u8,
+    rule: &R,
+    purchases: &[u64],
+    shares: &mut [i64],
+    table: &mut Table,
+)
+    requires sound { ⌜ Sound (held (now book)) ⌝ }
+    requires priced { ⌜ now (now prices .prices) ≡ held (now book) .prices ⌝ }
+    requires weighed { ⌜ now purchases ≡ weights Purchases (held (now book)) hour ⌝ }
+    requires borne { ⌜ lacking (held (now book)) hour ≡ false ⌝ }
+    requires places { ⌜ length (now shares) ≡ now book .heading .accounts ⌝ }
+    requires room { ⌜ Room (now table) ⌝ }
+    ensures { λ _. ⌜ Grown (now (table .entry)) (now (table .exit)) (sheet (R·Sharing .parts (now (rule .entry))) (held (now (book .entry))) hour) ⌝ }
+{
+    for i in 0..CODE_COUNT {
+        add_code(
+            book,
+            prices,
+            hour,
+            rule,
+            purchases,
+            shares,
+            code_at(i),
+            table,
+        );
+    }
+}
