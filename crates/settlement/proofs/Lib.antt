@@ -3,3 +3,4 @@ pub mod Rows
 pub mod PartyRows
 pub mod Lacking
 pub mod Shares
+pub mod Charged

@@ -112,3 +112,7 @@ empty-room t e code q = rw (empty-cell t e code q) (omega arith)
 
 pub from-empty : (t u : Table) (f : Code → ℕ → ℤ) → t .cells ≡ empty-cells → Grown t u f → Holds u f
 from-empty t u f e w code q = w code q ∙ ap (λ z. z +ℤ f code q) (empty-cell t e code q) ∙ +ℤ-idl (f code q)
+
+-- one cell alone
+pub row-one : (t u : Table) (code : Code) (party : ℕ) (amount : ℤ) → Added t u code party amount → RowAdded t u code (λ q. owned-by party q amount)
+row-one t u code party amount p = row-more t t u code (λ _. pos 0) _ party amount (row-none t code (λ _. pos 0) (λ q. refl)) p (λ q. sym (+ℤ-idl (owned-by party q amount)))

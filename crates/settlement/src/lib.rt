@@ -1,5 +1,6 @@
 // The sheet of an hour and the table of a day, under any sharing rule.
 mod adding;
+mod items;
 mod own;
 mod shared;
 mod sheet;
