@@ -4,3 +4,4 @@ pub mod PartyRows
 pub mod Lacking
 pub mod Shares
 pub mod Charged
+pub mod Small

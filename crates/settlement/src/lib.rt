@@ -2,5 +2,6 @@
 mod adding;
 mod items;
 mod own;
+pub mod settle;
 mod shared;
-mod sheet;
+pub mod sheet;
