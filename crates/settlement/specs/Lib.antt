@@ -1,0 +1,4 @@
+pub mod Sheets
+pub mod Days
+pub mod Grown
+pub mod Laws
