@@ -1,2 +1,3 @@
 pub mod First
 pub mod Fits
+pub mod Printed

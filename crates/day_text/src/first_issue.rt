@@ -42,17 +42,13 @@ pub fn issue_first(ledger: &mut [Note], table: &Table) -> usize
 }
 
 // The statement of the first issue, for which there is room.
-pub fn state_first(
-    heading: &Heading,
-    ledger: &[Note],
-    notes: usize,
-    buffer: &mut [u8],
-) -> usize
+pub fn state_first(heading: &Heading, ledger: &[Note], notes: usize, buffer: &mut [u8]) -> usize
     requires sound { ⌜ sound-notes (now ledger) notes 1 ≡ true ⌝ }
     requires few { ⌜ notes ≤ cell-count ⌝ }
     requires room { ⌜ statement-room cell-count ≤ length (now buffer) ⌝ }
     ensures answer { λ r. ⌜ r ≡ length (statement-text (now (heading .entry)) (take notes (now (ledger .entry))) 0) ⌝ }
     ensures after { λ _. ⌜ now (buffer .exit) ≡ left-if-fits (statement-text (now (heading .entry)) (take notes (now (ledger .entry))) 0) (now (buffer .entry)) ⌝ }
+    ensures within { λ r. ⌜ r ≤ length (now (buffer .entry)) ⌝ }
 {
     match statement(heading, ledger, notes, 1, 0, buffer) {
         Ok(length) => length,

@@ -33,6 +33,7 @@ fn put_fault(buffer: &mut [u8], fault: &Fault) -> usize
     requires { ⌜ refused-room ≤ length (now buffer) ⌝ }
     ensures answer { λ r. ⌜ r ≡ length (refused-text (now (fault .entry))) ⌝ }
     ensures after { λ _. ⌜ now (buffer .exit) ≡ left-if-fits (refused-text (now (fault .entry))) (now (buffer .entry)) ⌝ }
+    ensures within { λ r. ⌜ r ≤ length (now (buffer .entry)) ⌝ }
 {
     match put_refused(buffer, fault) {
         Some(length) => length,
@@ -47,6 +48,7 @@ fn put_settled(book: &Book, table: &mut Table, ledger: &mut [Note], buffer: &mut
     requires buffer { ⌜ text-room ≤ length (now buffer) ⌝ }
     ensures answer { λ r. ⌜ r ≡ length (settled-text (held (now (book .entry))) (settle-refusal (held (now (book .entry))))) ⌝ }
     ensures after { λ _. ⌜ now (buffer .exit) ≡ left-if-fits (settled-text (held (now (book .entry))) (settle-refusal (held (now (book .entry))))) (now (buffer .entry)) ⌝ }
+    ensures within { λ r. ⌜ r ≤ length (now (buffer .entry)) ⌝ }
 {
     match settle(book, &Running, table) {
         Ok(()) => {
@@ -58,11 +60,18 @@ fn put_settled(book: &Book, table: &mut Table, ledger: &mut [Note], buffer: &mut
 }
 
 // The same, with room enough by what is lent.
-fn put_printed(book: &mut Book, table: &mut Table, ledger: &mut [Note], buffer: &mut [u8], file: &[u8]) -> usize
+fn put_printed(
+    book: &mut Book,
+    table: &mut Table,
+    ledger: &mut [Note],
+    buffer: &mut [u8],
+    file: &[u8],
+) -> usize
     requires ledger { ⌜ cell-count ≤ length (now ledger) ⌝ }
     requires buffer { ⌜ text-room ≤ length (now buffer) ⌝ }
     ensures answer { λ r. ⌜ r ≡ length (printed-text (now (file .entry))) ⌝ }
     ensures after { λ _. ⌜ now (buffer .exit) ≡ left-if-fits (printed-text (now (file .entry))) (now (buffer .entry)) ⌝ }
+    ensures within { λ r. ⌜ r ≤ length (now (buffer .entry)) ⌝ }
 {
     match load(book, file) {
         Ok(()) => put_settled(book, table, ledger, buffer),
@@ -82,7 +91,7 @@ pub fn print_day(
 ) -> usize
     ensures answer { λ r. ⌜ r ≡ length (printed-text (now (file .entry))) ⌝ }
     ensures after { λ _. ⌜ now (buffer .exit) ≡ left-if-fits (printed-text (now (file .entry))) (now (buffer .entry)) ⌝ }
-    ensures fits { λ r. ⌜ r ≤ text-room ⌝ }
+    ensures within { λ r. ⌜ r ≤ text-room ⌝ }
 {
     put_printed(book, table, ledger, buffer, file)
 }
