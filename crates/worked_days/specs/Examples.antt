@@ -5,26 +5,39 @@ use Prim.Native.Nat.{ℕ}
 use lib.Dec.{eqb}
 use lib.IntN.{ℤ, pos, negsuc}
 use lib.ListN.{length}
+use Rattle.std.specs.declared.option.Option.{Option}
+use Rattle.std.specs.declared.option.Option.the-variants.{None, Some}
 use Rattle.std.specs.declared.result.Result.{Result}
 use Rattle.std.specs.declared.result.Result.the-variants.{Ok, Err}
 use Rattle.faults.specs.Numbers.{layer-number, refusal-layer, refusal-number}
 use Rattle.faults.specs.declared.fault.Fault.{Fault}
+use Rattle.dayfile.specs.Records.{Records}
 use Rattle.sharing.specs.Choice.{rule-parts}
 use Rattle.sharing.specs.Shareable.{share-answer}
 use Rattle.sharing.specs.declared.choice.Rule.{Rule}
+use Rattle.codes.specs.declared.code.Code.{Code}
+use Rattle.settlement.specs.Days.{day-cell, settle-refusal}
 
 -- the numbers that come out, or the number and the layer of the refusal
 pub data Answer : Type 0 where
   numbers : List ℤ → Answer
   refused : ℕ → ℕ → Answer
 
+-- a code and a party
+pub record Asked : Type 0 where
+  pub code : Code
+  pub party : ℕ
+
 pub data Example : Type 0 where
   -- an amount shared over weights under a rule
   sharing : Rule → ℕ → List ℕ → Answer → Example
+  -- a day settled under a rule, and the amounts of some codes and parties
+  settling : Rule → Records → List Asked → Answer → Example
 
 -- what an example says should come out
 abbrev pub expected : Example → Answer
 expected (sharing rule amount weights answer) = answer
+expected (settling rule r asked answer) = answer
 
 abbrev pub fault-answer : Fault → Answer
 fault-answer f = refused (refusal-number (f .refusal)) (layer-number (refusal-layer (f .refusal)))
@@ -33,10 +46,16 @@ abbrev pub parts-answer : Result (Unit {0}) Fault → List ℕ → Answer
 parts-answer (Ok done) parts = numbers (map pos parts)
 parts-answer (Err f) parts = fault-answer f
 
+abbrev pub cells-answer : Option Fault → List ℤ → Answer
+cells-answer None amounts = numbers amounts
+cells-answer (Some f) amounts = fault-answer f
+
 -- what the definitions give
 abbrev pub defined : Example → Answer
 defined (sharing rule amount weights answer) =
     parts-answer (share-answer amount weights (length weights)) (rule-parts rule amount weights)
+defined (settling rule r asked answer) =
+    cells-answer (settle-refusal r) (map (λ c. day-cell (rule-parts rule) r (c .code) (c .party)) asked)
 
 abbrev pub same-number : ℤ → ℤ → Bool
 same-number (pos m) (pos n) = eqb m n

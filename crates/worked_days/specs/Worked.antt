@@ -1,10 +1,36 @@
 -- The common table of worked examples.
 use mathlib.Core.List.{List, [], _∷_}
 use mathlib.Core.Path.{_≡_}
-use lib.IntN.{pos}
+use Prim.Native.Nat.{ℕ}
+use lib.IntN.{pos, negℤ}
 use Rattle.std.specs.shelf.Lists.{Has}
+use Rattle.dayfile.specs.Records.{Records}
+use Rattle.dayfile.specs.declared.record.Class.the-variants.{Generation, Load}
 use Rattle.sharing.specs.declared.choice.Rule.the-variants.{LargestRemainder, Running}
-use Rattle.worked_days.specs.Examples.{Example, defined, expected, numbers, refused, sharing}
+use Rattle.codes.specs.declared.code.Code.{Code}
+use Rattle.codes.specs.declared.code.Code.the-variants.{A3, A4, B3, B4, F3, F4}
+use Rattle.worked_days.specs.Examples.{Asked, Example, defined, expected, numbers, refused, settling, sharing}
+
+abbrev pub asked : Code → ℕ → Asked
+asked code party = record { code = code; party = party }
+
+-- 2019-03-05, two accounts, one node: in hour 7 account 1 generates what account 2 takes. Account 1 has reserve of unit 12
+-- and kind 3, 500 kWh at 2,000 the day before and 400 kWh at the price given in real time, and the unit failed.
+abbrev pub failed-day : ℕ → Records
+failed-day price = record {
+  heading = record { year = 2019; month = 3; day = 5; hours = 24; accounts = 2; nodes = 1; interconnections = 0; real = tt };
+  prices = record { node = 1; hour = 7; «day_ahead» = pos 50000; «real_time» = pos 60000 } ∷ [];
+  positions =
+      record { account = 1; node = 1; hour = 7; class = Generation; «day_ahead» = 1000; «real_time» = 1000 }
+      ∷ record { account = 2; node = 1; hour = 7; class = Load; «day_ahead» = 1000; «real_time» = 1000 } ∷ [];
+  interconnections = [];
+  reserves = record { account = 1; unit = 12; kind = 3; hour = 7; «day_ahead_price» = 2000; «day_ahead» = 500; «real_time_price» = price; «real_time» = 400 } ∷ [];
+  failures = record { unit = 12; kind = 3 } ∷ [];
+  fines = [];
+}
+
+abbrev pub without-positions : Records → Records
+without-positions r = record { heading = r .heading; prices = r .prices; positions = []; interconnections = r .interconnections; reserves = r .reserves; failures = r .failures; fines = r .fines }
 
 abbrev pub worked-examples : List Example
 worked-examples =
@@ -23,6 +49,14 @@ worked-examples =
     -- all of it to the one place with a weight
     ∷ sharing Running 7 (0 ∷ 5 ∷ []) (numbers (pos 0 ∷ pos 7 ∷ []))
     ∷ sharing LargestRemainder 7 (0 ∷ 5 ∷ []) (numbers (pos 0 ∷ pos 7 ∷ []))
+    -- reserve that failed: the penalty is what it came to in both markets
+    ∷ settling Running (failed-day 3000) (asked A3 1 ∷ asked B3 1 ∷ asked A4 2 ∷ asked B4 2 ∷ asked F3 1 ∷ asked F4 51 ∷ [])
+    (numbers (pos 1000000 ∷ negℤ (pos 300000) ∷ negℤ (pos 1000000) ∷ pos 300000 ∷ negℤ (pos 700000) ∷ pos 700000 ∷ []))
+    -- the same where that is below 0: there is no penalty
+    ∷ settling Running (failed-day 30000) (asked A3 1 ∷ asked B3 1 ∷ asked A4 2 ∷ asked B4 2 ∷ asked F3 1 ∷ asked F4 51 ∷ [])
+    (numbers (pos 1000000 ∷ negℤ (pos 3000000) ∷ negℤ (pos 1000000) ∷ pos 3000000 ∷ pos 0 ∷ pos 0 ∷ []))
+    -- the same without the purchases of account 2: nobody bears the cost of the reserve, refusal 11, layer 3
+    ∷ settling Running (without-positions (failed-day 3000)) (asked A3 1 ∷ []) (refused 11 3)
     ∷ []
 
 -- each example of the table comes out as it says
