@@ -10,8 +10,7 @@ use lib.IntN.{natAbs}
 use lib.ListN.{length, length-append, length-take, take}
 use Rattle.std.proofs.shelf.Decimals.{length-decimal-le}
 use Rattle.std.proofs.shelf.Tests.{and-parts, cond-true, le-leb, leb-true}
-use Rattle.std.specs.Options.{isSome, okOr}
-use Rattle.std.specs.Results.{isOk}
+use Rattle.std.specs.Options.{isSome}
 use Rattle.std.specs.Joined.{joined}
 use Rattle.std.specs.Written.{decimal}
 use Rattle.std.specs.declared.option.Option.{Option}
@@ -99,12 +98,12 @@ few-in ledger count k small e =
     let p = and-parts (leb count (length ledger)) (sound-list k (take count ledger)) e in
     omega (arith, ap length (front ledger count), few k (take count ledger) (p .1))
 
-pub fits-in : {E : Type 0} (h : Heading) (ledger : List Note) (count k number : ℕ) (buffer : List ℕ) (fault : E) → k < 256 → number < 256 → sound-notes ledger count k ≡ true
-    → statement-room count ≤ length buffer → isOk (okOr (length-if-fits (statement-text h (take count ledger) number) buffer) fault) ≡ true
-fits-in h ledger count k number buffer fault small small′ e room =
+pub fits-in : (h : Heading) (ledger : List Note) (count k number : ℕ) (buffer : List ℕ) → k < 256 → number < 256 → sound-notes ledger count k ≡ true
+    → statement-room count ≤ length buffer → isSome (length-if-fits (statement-text h (take count ledger) number) buffer) ≡ true
+fits-in h ledger count k number buffer small small′ e room =
     let p = and-parts (leb count (length ledger)) (sound-list k (take count ledger)) e in
     let text = statement-text h (take count ledger) number in
     let within = leb-true count (length ledger) (p .0) in
     let long : length (take count ledger) ≡ count = rw (length-take count ledger) (omega arith) in
     let fit : length text ≤ length buffer = omega (arith, long, text-room h k number (take count ledger) small small′ (p .1)) in
-    ap (λ o. isOk (okOr o fault)) (cond-true (leb (length text) (length buffer)) (Some (length text)) None (le-leb (length text) (length buffer) fit))
+    ap isSome (cond-true (leb (length text) (length buffer)) (Some (length text)) None (le-leb (length text) (length buffer) fit))
