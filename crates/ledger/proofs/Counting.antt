@@ -1,18 +1,17 @@
 -- What notes count for under a code and a party.
 use mathlib.Core.Bool.{Bool, true, false, cond, _&&_}
 use mathlib.Core.List.{List, [], _∷_, _++_}
-use mathlib.Core.Logic.{_⊎_, inl, inr, ⊎-elim}
+use mathlib.Core.Logic.{_⊎_, inl, inr}
 use mathlib.Core.Path.{_≡_, refl, sym, ap, subst, _∙_}
-use Prim.Native.Nat.{ℕ, suc, _+_, _-_, _*_, _<_, _≤_}
+use Prim.Native.Nat.{ℕ, suc, _+_, _-_, _<_, _≤_}
 use native.Mathlib.Omega.{arith}
 use lib.Dec.{eqb, leb}
 use lib.IntN.{ℤ, pos, natAbs, _+ℤ_, _-ℤ_, +ℤ-idl, +ℤ-idr, +ℤ-assoc}
 use lib.ListN.{getD, length, take}
 use Rattle.std.proofs.shelf.Lists.{take-more}
 use Rattle.std.proofs.shelf.Signed.{ints}
-use Rattle.std.proofs.shelf.Tests.{and-cases, and-from, and-left, and-parts, and-right, cases-eq, cond-false, cond-true, eq-eqb, eqb-true, false≢true, leb-true, ne-eqb}
+use Rattle.std.proofs.shelf.Tests.{and-from, and-left, and-parts, and-right, cases-eq, cond-false, cond-true, eq-eqb, eqb-true, leb-true, ne-eqb}
 use Rattle.std.specs.Options.{isSome}
-use Rattle.std.specs.declared.option.Option.{Option}
 use Rattle.std.specs.declared.option.Option.the-variants.{Some, None}
 use Rattle.codes.specs.Cells.{Put, cell}
 use Rattle.codes.specs.Codes.{code-at, code-count, code-number, code-of}

@@ -1,10 +1,9 @@
 -- Room that a statement always fits.
-use mathlib.Core.Bool.{Bool, true, false, cond, _&&_}
+use mathlib.Core.Bool.{Bool, true, false, cond}
 use mathlib.Core.List.{List, [], _∷_, _++_}
-use mathlib.Core.Path.{_≡_, refl, sym, ap, _∙_}
-use Prim.Native.Nat.{ℕ, _+_, _-_, _*_, _^_, _<_, _≤_}
+use mathlib.Core.Path.{_≡_, refl, ap}
+use Prim.Native.Nat.{ℕ, _+_, _-_, _*_, _<_, _≤_}
 use native.Mathlib.Omega.{arith}
-use lib.Chars.{codes}
 use lib.Dec.{T, eqb, leb}
 use lib.IntN.{natAbs}
 use lib.ListN.{length, length-append, length-take, take}
@@ -24,8 +23,7 @@ use Rattle.ledger.specs.declared.note.Note.{Note}
 use Rattle.ledger.proofs.Keys.{Sound, few, sound-is}
 use Rattle.text.specs.Written.{length-if-fits}
 use Rattle.statement.specs.Lines.{line-under, note-line}
-use Rattle.statement.specs.Sides.{side-and-magnitude}
-use Rattle.statement.specs.Statements.{day-name, first-line, last-line, of-issue, statement-room, statement-text}
+use Rattle.statement.specs.Statements.{first-line, last-line, of-issue, statement-room, statement-text}
 use Rattle.statement.specs.Steps.{line-in}
 use Rattle.statement.proofs.Lengths.{length-amount-line, magnitude-is}
 use Rattle.statement.proofs.Stated.{length-text, of-issue-front}

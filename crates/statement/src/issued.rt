@@ -6,7 +6,7 @@ ghost use lib.ListN.{length, take};
 ghost use Rattle.std.specs.Joined.{joined};
 ghost use Rattle.std.specs.Options.{isSome};
 ghost use Rattle.std.specs.Results.{isOk};
-ghost use Rattle.ledger.specs.Notes.{sound-list, sound-notes};
+ghost use Rattle.ledger.specs.Notes.{sound-notes};
 ghost use Rattle.statement.specs.Statements.{day-name, digit-of, first-line, last-line, of-issue, statement-answer, statement-leaves, statement-room, statement-text};
 ghost use Rattle.statement.specs.Steps.{line-in, one-in};
 ghost use Rattle.text.specs.Written.{Wrote, left-if-fits, length-if-fits};
