@@ -11,10 +11,8 @@ use lib.ListN.{drop, getD, length, set, take}
 use Rattle.std.proofs.shelf.Lists.{set-split}
 use Rattle.std.proofs.shelf.Tests.{cond-false, cond-true, le-leb, lt-leb}
 use Rattle.std.specs.Joined.{joined}
-use Rattle.std.specs.declared.result.Result.{Result}
 use Rattle.std.specs.declared.result.Result.the-variants.{Ok, Err}
 use Rattle.faults.specs.Places.{plain}
-use Rattle.faults.specs.declared.fault.Fault.{Fault}
 use Rattle.faults.specs.declared.refusal.Refusal.the-variants.{LedgerFull}
 use Rattle.codes.specs.Cells.{cell}
 use Rattle.codes.specs.Codes.{code-number}

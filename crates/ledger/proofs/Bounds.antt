@@ -1,14 +1,13 @@
 -- Sums of sound notes are small: a cell has at most one note of each issue.
 use mathlib.Core.Bool.{Bool, true, false, cond, _&&_}
-use mathlib.Core.List.{List, [], _∷_, _++_}
+use mathlib.Core.List.{List, [], _∷_}
 use mathlib.Core.Logic.{_⊎_, inl, inr, ⊎-elim}
-use mathlib.Core.Path.{_≡_, refl, sym, ap, subst, _∙_}
+use mathlib.Core.Path.{_≡_, refl, sym, ap, subst}
 use Prim.Native.Nat.{ℕ, zero, suc, _+_, _-_, _*_, _<_, _≤_}
 use native.Mathlib.Omega.{arith}
 use lib.Dec.{eqb, leb}
 use lib.IntN.{ℤ, pos, natAbs, _+ℤ_, _-ℤ_}
 use lib.ListN.{getD, length, take}
-use Rattle.std.proofs.shelf.Lists.{getD-past}
 use Rattle.std.proofs.shelf.Signed.{ints}
 use Rattle.std.proofs.shelf.Tests.{and-from, and-parts, cases-bool, eqb-true, leb-false, leb-true}
 use Rattle.std.specs.declared.option.Option.{Option}
@@ -16,12 +15,11 @@ use Rattle.std.specs.declared.option.Option.the-variants.{Some, None}
 use Rattle.codes.specs.Cells.{amount-at, cell}
 use Rattle.codes.specs.Codes.{code-index, code-number}
 use Rattle.codes.specs.Parties.{party-count, party-place}
-use Rattle.codes.specs.Sums.{sum-over}
 use Rattle.codes.specs.declared.code.Code.{Code}
 use Rattle.codes.specs.declared.table.Table.{Table}
-use Rattle.ledger.specs.Issues.{counted, noted}
+use Rattle.ledger.specs.Issues.{noted}
 use Rattle.ledger.specs.Steps.{AllTakeable}
-use Rattle.ledger.specs.Notes.{all-within, amount-limit, known, no-note, precedes, sound-after, sound-list, sound-next, sound-note, sound-notes, within, within-limit}
+use Rattle.ledger.specs.Notes.{all-within, amount-limit, known, no-note, precedes, sound-after, sound-list, sound-next, sound-note, within, within-limit}
 use Rattle.ledger.specs.declared.note.Note.{Note}
 use Rattle.ledger.proofs.Keys.{Sound, key, rises, slot, sound-is}
 

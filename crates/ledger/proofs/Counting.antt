@@ -1,20 +1,17 @@
 -- What notes count for under a code and a party.
 use mathlib.Core.Bool.{Bool, true, false, cond, _&&_}
 use mathlib.Core.List.{List, [], _∷_, _++_}
-use mathlib.Core.Logic.{_⊎_, inl, inr, ⊎-elim}
+use mathlib.Core.Logic.{_⊎_, inl, inr}
 use mathlib.Core.Path.{_≡_, refl, sym, ap, subst, _∙_}
-use Prim.Native.Nat.{ℕ, suc, _+_, _-_, _*_, _<_, _≤_}
+use Prim.Native.Nat.{ℕ, suc, _+_, _-_, _<_, _≤_}
 use native.Mathlib.Omega.{arith}
 use lib.Dec.{eqb, leb}
 use lib.IntN.{ℤ, pos, natAbs, _+ℤ_, _-ℤ_, +ℤ-idl, +ℤ-idr, +ℤ-assoc}
 use lib.ListN.{getD, length, take}
-use mir.Syntax.{w64}
-use mir.Val.{SFits, ofZ, toZ}
 use Rattle.std.proofs.shelf.Lists.{take-more}
-use Rattle.std.proofs.shelf.Signed.{ints, toZ-ofZ}
-use Rattle.std.proofs.shelf.Tests.{and-cases, and-from, and-left, and-parts, and-right, cases-eq, cond-false, cond-true, eq-eqb, eqb-true, false≢true, leb-true, ne-eqb}
+use Rattle.std.proofs.shelf.Signed.{ints}
+use Rattle.std.proofs.shelf.Tests.{and-from, and-left, and-parts, and-right, cases-eq, cond-false, cond-true, eq-eqb, eqb-true, leb-true, ne-eqb}
 use Rattle.std.specs.Options.{isSome}
-use Rattle.std.specs.declared.option.Option.{Option}
 use Rattle.std.specs.declared.option.Option.the-variants.{Some, None}
 use Rattle.codes.specs.Cells.{Put, cell}
 use Rattle.codes.specs.Codes.{code-at, code-count, code-number, code-of}
@@ -88,14 +85,6 @@ small-off t n code h e = subst (λ z. natAbs (cell t code (n .party) -ℤ z) ≤
 pub codes-known : (n : Note) → known n ≡ true → (isSome (code-of (n .code)) ≡ true) × (isSome (party-place (n .party)) ≡ true)
 unfolding known
 codes-known n e = and-parts (isSome (code-of (n .code))) (isSome (party-place (n .party))) e
-
--- a difference as the machine has it
-pub diff-fits : (a b : ℤ) → SFits w64 a → SFits w64 b → natAbs (a -ℤ b) ≤ 1000000000000000000 → SFits w64 (toZ w64 (ofZ w64 a) -ℤ toZ w64 (ofZ w64 b))
-diff-fits a b f g h = simp toZ-ofZ (omega (arith, ints))
-
-pub diff-is : (a b : ℤ) → SFits w64 a → SFits w64 b → natAbs (a -ℤ b) ≤ 1000000000000000000 → toZ w64 (ofZ w64 (toZ w64 (ofZ w64 a) -ℤ toZ w64 (ofZ w64 b))) ≡ a -ℤ b
-diff-is a b f g h =
-    toZ-ofZ w64 (toZ w64 (ofZ w64 a) -ℤ toZ w64 (ofZ w64 b)) (diff-fits a b f g h) ∙ (λ i. toZ-ofZ w64 a f i -ℤ toZ-ofZ w64 b g i)
 
 pub no-code : (n : Note) → known n ≡ true → None ≡ code-of (n .code) → false ≡ true
 no-code n e f = ap isSome f ∙ codes-known n e .0

@@ -1,7 +1,7 @@
 -- The laws of an issue.
 use mathlib.Core.Bool.{true}
 use mathlib.Core.List.{List, [], _∷_, _++_, append-assoc}
-use mathlib.Core.Path.{_≡_, refl, sym, ap, subst, _∙_}
+use mathlib.Core.Path.{_≡_, refl, sym, ap, _∙_}
 use Prim.Native.Nat.{ℕ, zero, suc, _+_, _<_, _≤_}
 use native.Mathlib.Omega.{arith}
 use lib.Dec.{leb}
@@ -9,7 +9,7 @@ use lib.IntN.{ℤ, pos, negsuc, natAbs, _+ℤ_, _-ℤ_}
 use lib.ListN.{drop, getD, length, length-append, length-take, take}
 use Rattle.std.proofs.shelf.Lists.{take-at}
 use Rattle.std.proofs.shelf.Signed.{ints}
-use Rattle.std.proofs.shelf.Tests.{and-from, and-parts, cond-true, le-leb, leb-true}
+use Rattle.std.proofs.shelf.Tests.{and-from, and-parts, cond-true, le-leb}
 use Rattle.std.specs.Joined.{joined}
 use Rattle.std.specs.declared.option.Option.{Option}
 use Rattle.std.specs.declared.option.Option.the-variants.{Some, None}
@@ -18,11 +18,10 @@ use Rattle.codes.specs.Codes.{all-codes}
 use Rattle.codes.specs.Parties.{party-numbers, party-place}
 use Rattle.codes.specs.Sums.{total}
 use Rattle.codes.specs.declared.code.Code.{Code}
-use Rattle.codes.specs.declared.table.Table.{Table}
 use Rattle.text.specs.Written.{written}
 use Rattle.ledger.specs.Issues.{counted, earlier, issue-leaves, new-notes, note-for, noted, notes-of, row-notes}
-use Rattle.ledger.specs.Laws.{Halves-differ-within-the-limit, Issues-append, Issues-balance, Issues-bear-their-number, Issues-keep-notes-sound, Issues-reach-the-cells, balance}
-use Rattle.ledger.specs.Notes.{amount-limit, no-note, sound-list, sound-notes}
+use Rattle.ledger.specs.Laws.{Halves-differ-within-the-limit, Issues-append, Issues-balance, Issues-bear-their-number, Issues-keep-notes-sound, Issues-reach-the-cells}
+use Rattle.ledger.specs.Notes.{no-note, sound-list, sound-notes}
 use Rattle.ledger.specs.declared.note.Note.{Note}
 use Rattle.ledger.proofs.Counting.{sum-++}
 use Rattle.ledger.proofs.Renewed.{renewed}

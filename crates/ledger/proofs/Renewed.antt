@@ -1,13 +1,12 @@
 -- The notes of an issue are sound, and follow the earlier ones.
-use mathlib.Core.Bool.{Bool, true, false, not, _&&_, _||_}
+use mathlib.Core.Bool.{Bool, true, false, not, _&&_}
 use mathlib.Core.List.{List, [], _∷_, _++_}
-use mathlib.Core.Logic.{_⊎_, inl, inr, ⊎-elim}
-use mathlib.Core.Path.{_≡_, refl, sym, ap, subst, _∙_}
+use mathlib.Core.Logic.{⊎-elim}
+use mathlib.Core.Path.{_≡_, refl, sym, ap, subst}
 use Prim.Native.Nat.{ℕ, zero, suc, _+_, _*_, _<_, _≤_}
 use native.Mathlib.Omega.{arith}
 use lib.Dec.{eqb, leb, ltb}
 use lib.IntN.{ℤ, pos, negsuc, natAbs}
-use lib.ListN.{length}
 use Rattle.std.proofs.shelf.Tests.{and-from, and-parts, cases-lt, eq-eqb, le-leb, leb-true, lt-ltb, ltb-true, ne-eqb, or-left, or-right}
 use Rattle.std.specs.Joined.{joined}
 use Rattle.std.specs.Options.{isSome}
@@ -18,7 +17,7 @@ use Rattle.codes.proofs.Laws.{numbers-tell-codes}
 use Rattle.ledger.specs.Issues.{note-for, notes-of, row-notes}
 use Rattle.ledger.specs.Notes.{amount-limit, known, no-note, precedes, sound-after, sound-list, sound-next, sound-note, within}
 use Rattle.ledger.specs.declared.note.Note.{Note}
-use Rattle.ledger.proofs.Keys.{Sound, key, slot, sound-is}
+use Rattle.ledger.proofs.Keys.{key, slot, sound-is}
 
 -- a key that rises is an order
 pub from-keys : (y x : Note) → slot y < 65536 → slot x < 65536 → y .party < 256 → x .party < 256 → key y < key x → precedes y x ≡ true

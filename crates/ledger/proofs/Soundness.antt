@@ -1,14 +1,12 @@
 -- One note or one cell more.
-use mathlib.Core.Bool.{Bool, true, false, cond, not, _&&_}
-use mathlib.Core.List.{List, [], _∷_, _++_}
-use mathlib.Core.Path.{_≡_, refl, sym, ap, _∙_}
-use Prim.Native.Nat.{ℕ, zero, suc, _+_, _*_, _<_, _≤_}
-use native.Mathlib.Omega.{arith}
-use lib.IntN.{ℤ, pos, natAbs}
+use mathlib.Core.Bool.{Bool, true, _&&_}
+use mathlib.Core.List.{List}
+use mathlib.Core.Path.{_≡_, refl}
+use Prim.Native.Nat.{ℕ, _+_, _<_, _≤_}
+use lib.IntN.{ℤ, pos}
 use lib.ListN.{drop, getD, length}
 use Rattle.std.proofs.shelf.Lists.{at-drop-all, at-drop-more}
-use Rattle.std.proofs.shelf.Tests.{and-left, and-parts, leb-true}
-use Rattle.ledger.specs.Notes.{all-within, amount-limit, no-note, precedes, sound-after, sound-next, sound-note, within}
+use Rattle.ledger.specs.Notes.{all-within, no-note, sound-after, sound-next, within}
 use Rattle.ledger.specs.declared.note.Note.{Note}
 
 pub within-more : (zs : List ℤ) (i : ℕ) → i < length zs → all-within (drop i zs) ≡ (within (getD zs i (pos 0)) && all-within (drop (i + 1) zs))

@@ -1,9 +1,9 @@
 -- What the notes of an issue add up to.
 use mathlib.Core.Bool.{Bool, true, false, cond, _&&_}
-use mathlib.Core.List.{List, [], _∷_, _++_}
-use mathlib.Core.Logic.{_⊎_, inl, inr, ⊎-elim}
+use mathlib.Core.List.{List, [], _∷_}
+use mathlib.Core.Logic.{⊎-elim}
 use mathlib.Core.Path.{_≡_, refl, sym, ap, subst, _∙_}
-use Prim.Native.Nat.{ℕ, zero, suc, _+_, _-_, _<_, _≤_}
+use Prim.Native.Nat.{ℕ, zero, suc, _+_, _-_, _<_}
 use native.Mathlib.Omega.{arith}
 use lib.Dec.{eqb}
 use lib.IntN.{ℤ, pos, negsuc, _+ℤ_, _-ℤ_, +ℤ-idl, +ℤ-idr}
@@ -12,16 +12,13 @@ use Rattle.std.proofs.shelf.Signed.{ints}
 use Rattle.std.proofs.shelf.Tests.{and-parts, and-right, cases-eq, cond-false, eq-eqb, false≢true, ne-eqb}
 use Rattle.std.specs.Joined.{joined}
 use Rattle.std.specs.Options.{isSome}
-use Rattle.std.specs.Slices.{found}
 use Rattle.std.specs.declared.option.Option.{Option}
 use Rattle.std.specs.declared.option.Option.the-variants.{Some, None}
-use Rattle.codes.specs.Cells.{amount-at, cell}
-use Rattle.codes.specs.Codes.{all-codes, code-at, code-count, code-index, code-number, code-of}
+use Rattle.codes.specs.Codes.{all-codes, code-index, code-number, code-of}
 use Rattle.codes.specs.Parties.{party-count, party-numbers, party-place}
 use Rattle.codes.specs.Sums.{sum-over, total}
 use Rattle.codes.specs.declared.code.Code.{Code}
 use Rattle.codes.specs.declared.code.Code.the-variants.{A1}
-use Rattle.codes.specs.declared.table.Table.{Table}
 use Rattle.codes.proofs.Codes.{code-at-index, index-below}
 use Rattle.codes.proofs.Laws.{index-at, places-tell-parties}
 use Rattle.codes.proofs.Places.{found-at, place-below, place-holds}

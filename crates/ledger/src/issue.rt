@@ -2,15 +2,14 @@
 ghost use mathlib.Core.Bool.{true};
 ghost use mathlib.Core.Path.{_≡_};
 ghost use Prim.Native.Nat.{ℕ, _+_, _*_, _≤_};
-ghost use lib.IntN.{_-ℤ_};
+ghost use lib.Dec.{leb};
+ghost use lib.IntN.{natAbs, _-ℤ_};
 ghost use lib.ListN.{length};
 ghost use Rattle.std.specs.Joined.{joined};
 ghost use Rattle.codes.specs.Cells.{cell};
-ghost use Rattle.codes.specs.Parties.{party-numbers};
 ghost use Rattle.codes.specs.declared.code.Code.{Code};
-ghost use Rattle.codes.specs.declared.code.CodeRow.{CodeRow};
 ghost use Rattle.ledger.specs.Issues.{counted, issue-answer, issue-leaves, new-notes, note-for, noted, notes-of, row-notes};
-ghost use Rattle.ledger.specs.Steps.{AllTakeable, TakenOff, Takeable, rows-notes};
+ghost use Rattle.ledger.specs.Steps.{AllTakeable, Takeable, TakenOff, holdable, rows-notes};
 ghost use Rattle.ledger.specs.Laws.{Halves-differ-within-the-limit, Issues-append, Issues-balance, Issues-bear-their-number, Issues-keep-notes-sound, Issues-reach-the-cells};
 ghost use Rattle.ledger.specs.Notes.{sound-notes, within-limit};
 ghost use Rattle.text.specs.Written.{Wrote};
@@ -23,13 +22,21 @@ use codes::table::Table;
 use faults::fault::Fault;
 use faults::refusal::Refusal;
 
+// What the cell of the note's party has over the note.
+fn less(rest: &Table, code: Code, note: &Note) -> i64
+    requires { ⌜ natAbs (cell (now rest) code (now note .party) -ℤ now note .amount) ≤ holdable ⌝ }
+    ensures { λ r. ⌜ r ≡ cell (now (rest .entry)) code (now (note .entry) .party) -ℤ now (note .entry) .amount ⌝ }
+{
+    rest.amount(code, note.party) - note.amount
+}
+
 // Takes the note's amount off the cell of its code and party.
 fn take_off(rest: &mut Table, note: &Note)
     requires { ⌜ Takeable (now rest) (now note) ⌝ }
     ensures { λ _. ⌜ TakenOff (now (rest .entry)) (now (rest .exit)) (λ code party. counted code party (now (note .entry))) ⌝ }
 {
     if let Some(code) = Code::from_number(note.code) {
-        let left = rest.amount(code, note.party) - note.amount;
+        let left = less(rest, code, note);
         rest.put(code, note.party, left);
     }
 }
@@ -152,13 +159,21 @@ fn put_notes(ledger: &mut [Note], at: usize, issue: u8, rest: &Table) -> usize
     put_rows(ledger, at, issue, rest, &CODES)
 }
 
+// Is there room for so many entries behind the first `notes`?
+fn has_room(ledger: &[Note], notes: usize, added: usize) -> bool
+    requires { ⌜ notes ≤ length (now ledger) ⌝ }
+    ensures { λ r. ⌜ r ≡ leb (notes + added) (length (now (ledger .entry))) ⌝ }
+{
+    added <= ledger.len() - notes
+}
+
 // A note for each cell of `rest` that is not 0, behind the first entries of the ledger, if there is room for all of them.
 fn add_notes(ledger: &mut [Note], notes: usize, issue: u8, rest: &Table) -> Result<usize, Fault>
     requires { ⌜ notes ≤ length (now ledger) ⌝ }
     ensures answer { λ r. ⌜ r ≡ issue-answer (now (ledger .entry)) notes (notes-of issue (cell (now (rest .entry)))) ⌝ }
     ensures after { λ _. ⌜ now (ledger .exit) ≡ issue-leaves (now (ledger .entry)) notes (notes-of issue (cell (now (rest .entry)))) ⌝ }
 {
-    if count_notes(rest) > ledger.len() - notes {
+    if !has_room(ledger, notes, count_notes(rest)) {
         return Err(Fault::plain(Refusal::LedgerFull));
     }
     let end = put_notes(ledger, notes, issue, rest);

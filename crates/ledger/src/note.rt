@@ -1,7 +1,6 @@
 // A note of the ledger.
 ghost use mathlib.Core.Path.{_≡_};
 ghost use Rattle.ledger.specs.Notes.{cleared, no-note, precedes};
-ghost use lib.ListN.{length};
 
 // The largest magnitude of a note's amount and of a cell, in mils.
 pub const AMOUNT_LIMIT: u64 = 100_000_000_000_000_000;

@@ -1,17 +1,15 @@
 -- Room that a statement always fits.
-use mathlib.Core.Bool.{Bool, true, false, cond, _&&_}
+use mathlib.Core.Bool.{Bool, true, false, cond}
 use mathlib.Core.List.{List, [], _∷_, _++_}
-use mathlib.Core.Path.{_≡_, refl, sym, ap, _∙_}
-use Prim.Native.Nat.{ℕ, _+_, _-_, _*_, _^_, _<_, _≤_}
+use mathlib.Core.Path.{_≡_, refl, ap}
+use Prim.Native.Nat.{ℕ, _+_, _-_, _*_, _<_, _≤_}
 use native.Mathlib.Omega.{arith}
-use lib.Chars.{codes}
 use lib.Dec.{T, eqb, leb}
 use lib.IntN.{natAbs}
 use lib.ListN.{length, length-append, length-take, take}
 use Rattle.std.proofs.shelf.Decimals.{length-decimal-le}
 use Rattle.std.proofs.shelf.Tests.{and-parts, cond-true, le-leb, leb-true}
-use Rattle.std.specs.Options.{isSome, okOr}
-use Rattle.std.specs.Results.{isOk}
+use Rattle.std.specs.Options.{isSome}
 use Rattle.std.specs.Joined.{joined}
 use Rattle.std.specs.Written.{decimal}
 use Rattle.std.specs.declared.option.Option.{Option}
@@ -25,8 +23,7 @@ use Rattle.ledger.specs.declared.note.Note.{Note}
 use Rattle.ledger.proofs.Keys.{Sound, few, sound-is}
 use Rattle.text.specs.Written.{length-if-fits}
 use Rattle.statement.specs.Lines.{line-under, note-line}
-use Rattle.statement.specs.Sides.{side-and-magnitude}
-use Rattle.statement.specs.Statements.{day-name, first-line, last-line, of-issue, statement-room, statement-text}
+use Rattle.statement.specs.Statements.{first-line, last-line, of-issue, statement-room, statement-text}
 use Rattle.statement.specs.Steps.{line-in}
 use Rattle.statement.proofs.Lengths.{length-amount-line, magnitude-is}
 use Rattle.statement.proofs.Stated.{length-text, of-issue-front}
@@ -99,12 +96,12 @@ few-in ledger count k small e =
     let p = and-parts (leb count (length ledger)) (sound-list k (take count ledger)) e in
     omega (arith, ap length (front ledger count), few k (take count ledger) (p .1))
 
-pub fits-in : {E : Type 0} (h : Heading) (ledger : List Note) (count k number : ℕ) (buffer : List ℕ) (fault : E) → k < 256 → number < 256 → sound-notes ledger count k ≡ true
-    → statement-room count ≤ length buffer → isOk (okOr (length-if-fits (statement-text h (take count ledger) number) buffer) fault) ≡ true
-fits-in h ledger count k number buffer fault small small′ e room =
+pub fits-in : (h : Heading) (ledger : List Note) (count k number : ℕ) (buffer : List ℕ) → k < 256 → number < 256 → sound-notes ledger count k ≡ true
+    → statement-room count ≤ length buffer → isSome (length-if-fits (statement-text h (take count ledger) number) buffer) ≡ true
+fits-in h ledger count k number buffer small small′ e room =
     let p = and-parts (leb count (length ledger)) (sound-list k (take count ledger)) e in
     let text = statement-text h (take count ledger) number in
     let within = leb-true count (length ledger) (p .0) in
     let long : length (take count ledger) ≡ count = rw (length-take count ledger) (omega arith) in
     let fit : length text ≤ length buffer = omega (arith, long, text-room h k number (take count ledger) small small′ (p .1)) in
-    ap (λ o. isOk (okOr o fault)) (cond-true (leb (length text) (length buffer)) (Some (length text)) None (le-leb (length text) (length buffer) fit))
+    ap isSome (cond-true (leb (length text) (length buffer)) (Some (length text)) None (le-leb (length text) (length buffer) fit))

@@ -6,7 +6,7 @@ ghost use lib.ListN.{length, take};
 ghost use Rattle.std.specs.Joined.{joined};
 ghost use Rattle.std.specs.Options.{isSome};
 ghost use Rattle.std.specs.Results.{isOk};
-ghost use Rattle.ledger.specs.Notes.{sound-list, sound-notes};
+ghost use Rattle.ledger.specs.Notes.{sound-notes};
 ghost use Rattle.statement.specs.Statements.{day-name, digit-of, first-line, last-line, of-issue, statement-answer, statement-leaves, statement-room, statement-text};
 ghost use Rattle.statement.specs.Steps.{line-in, one-in};
 ghost use Rattle.text.specs.Written.{Wrote, left-if-fits, length-if-fits};
@@ -182,6 +182,23 @@ fn put_statement(buffer: &mut [u8], heading: &Heading, notes: &[Note], issue: u8
     Some(put_text(buffer, heading, notes, issue))
 }
 
+// The same for the first entries of a ledger.
+fn put_from_ledger(
+    buffer: &mut [u8],
+    heading: &Heading,
+    ledger: &[Note],
+    notes: usize,
+    issues: u8,
+    issue: u8,
+) -> Option<usize>
+    requires { ⌜ sound-notes (now ledger) notes issues ≡ true ⌝ }
+    ensures answer { λ r. ⌜ r ≡ length-if-fits (statement-text (now (heading .entry)) (take notes (now (ledger .entry))) issue) (now (buffer .entry)) ⌝ }
+    ensures after { λ _. ⌜ now (buffer .exit) ≡ left-if-fits (statement-text (now (heading .entry)) (take notes (now (ledger .entry))) issue) (now (buffer .entry)) ⌝ }
+    ensures fits { λ r. ⌜ (statement-room notes ≤ length (now (buffer .entry)) → isSome r ≡ true) ⌝ }
+{
+    put_statement(buffer, heading, &ledger[0..notes], issue)
+}
+
 // The text of an issue: its length, or why it was refused. The notes are sound ones.
 pub fn statement(
     heading: &Heading,
@@ -196,10 +213,11 @@ pub fn statement(
     ensures after { λ _. ⌜ now (buffer .exit) ≡ statement-leaves (now (heading .entry)) (take notes (now (ledger .entry))) issues issue (now (buffer .entry)) ⌝ }
     ensures fits { λ r. ⌜ (issue < issues → statement-room notes ≤ length (now (buffer .entry)) → isOk r ≡ true) ⌝ }
 {
-    if issue >= issues {
-        return Err(Fault::plain(Refusal::OutOfRange));
+    if issue < issues {
+        put_from_ledger(buffer, heading, ledger, notes, issues, issue).ok_or(Fault::plain(
+            Refusal::BufferTooShort,
+        ))
+    } else {
+        Err(Fault::plain(Refusal::OutOfRange))
     }
-    put_statement(buffer, heading, &ledger[0..notes], issue).ok_or(Fault::plain(
-        Refusal::BufferTooShort,
-    ))
 }

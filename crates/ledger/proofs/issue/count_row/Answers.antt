@@ -1,13 +1,11 @@
-use mathlib.Core.Path.{_≡_, sym, ap, _∙_}
-use Prim.Native.Nat.{_+_, _≤_}
+use mathlib.Core.Path.{sym, ap, _∙_}
 use native.Mathlib.Omega.{arith}
-use borrow.Author.Needs.{needs}
 use lib.ListN.{getD, length}
 use mir.Syntax.{w64}
 use Rattle.std.proofs.shelf.Lists.{take-all}
 use Rattle.std.proofs.shelf.Signed.{toZ-ofZ}
 use Rattle.codes.specs.Cells.{cell}
-use Rattle.ledger.specs.Issues.{note-for, row-notes}
+use Rattle.ledger.specs.Issues.{row-notes}
 use Rattle.ledger.proofs.Adding.{count-step, row-none}
 use Rattle.ledger.proofs.issue.count_row.Needs as need
 

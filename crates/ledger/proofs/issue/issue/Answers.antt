@@ -1,8 +1,7 @@
-use mathlib.Core.Path.{_≡_, sym, ap, subst, _∙_}
-use native.Mathlib.Omega.{arith}
+use mathlib.Core.Path.{sym, ap, subst, _∙_}
 use lib.Dec.{leb}
 use lib.ListN.{length, take}
-use Rattle.std.proofs.shelf.Tests.{and-parts, leb-true}
+use Rattle.std.proofs.shelf.Tests.{and-parts}
 use Rattle.ledger.specs.Issues.{issue-answer, issue-leaves, noted}
 use Rattle.ledger.specs.Steps.{AllTakeable, TakenOff}
 use Rattle.ledger.specs.Notes.{sound-list}

@@ -1,14 +1,12 @@
-use mathlib.Core.Path.{_≡_, sym, ap, subst, _∙_}
-use Prim.Native.Nat.{_+_}
+use mathlib.Core.Path.{sym, subst, _∙_}
 use native.Mathlib.Omega.{arith}
-use lib.ListN.{getD, length, take}
 use mir.Syntax.{w64}
 use Rattle.std.proofs.shelf.Lists.{take-all}
 use Rattle.std.proofs.shelf.Signed.{toZ-ofZ}
 use Rattle.codes.specs.Cells.{cell}
 use Rattle.text.specs.Written.{Wrote}
 use Rattle.text.proofs.Writing.{none}
-use Rattle.ledger.specs.Issues.{note-for, row-notes}
+use Rattle.ledger.specs.Issues.{row-notes}
 use Rattle.ledger.proofs.Adding.{room-step, row-none, wrote-step}
 use Rattle.ledger.proofs.issue.put_row.Needs as need
 

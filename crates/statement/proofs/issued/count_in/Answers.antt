@@ -1,8 +1,7 @@
-use mathlib.Core.Path.{_≡_, ap, _∙_}
+use mathlib.Core.Path.{ap, _∙_}
 use native.Mathlib.Omega.{arith}
 use lib.ListN.{length}
 use Rattle.std.proofs.shelf.Lists.{take-all}
-use Rattle.ledger.specs.Notes.{no-note}
 use Rattle.statement.specs.Statements.{of-issue}
 use Rattle.statement.proofs.Stated.{length-of-issue-more}
 use Rattle.statement.proofs.issued.count_in.Needs as need

@@ -1,5 +1,4 @@
-use native.Mathlib.Omega.{arith}
-use Rattle.text.proofs.Writing.{fits, too-long}
+use Rattle.text.proofs.Writing.{fits}
 use Rattle.statement.specs.Statements.{statement-text}
 use Rattle.statement.proofs.issued.put_statement.Needs as need
 

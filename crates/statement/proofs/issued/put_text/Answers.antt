@@ -1,11 +1,11 @@
-use mathlib.Core.List.{[], _∷_, _++_}
-use mathlib.Core.Path.{_≡_, sym, ap, subst, _∙_}
+use mathlib.Core.List.{_++_}
+use mathlib.Core.Path.{sym, ap, subst, _∙_}
 use native.Mathlib.Omega.{arith}
 use lib.ListN.{length}
 use Rattle.std.specs.Joined.{joined}
 use Rattle.text.specs.Written.{Wrote}
 use Rattle.text.proofs.Writing.{after}
-use Rattle.statement.specs.Statements.{first-line, last-line, statement-text}
+use Rattle.statement.specs.Statements.{first-line, last-line}
 use Rattle.statement.specs.Steps.{line-in}
 use Rattle.statement.proofs.Stated.{length-text, text-is}
 use Rattle.statement.proofs.issued.put_text.Needs as need
