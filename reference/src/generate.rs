@@ -122,7 +122,7 @@ impl Size {
         Size::Largest,
     ];
 
-    /// How many records of each kind are aimed at, in the order of the marks; a price less than needed does not happen.
+    /// How many records of each kind are aimed at; the prices that other records need come on top.
     fn wanted(self, random: &mut Random) -> [usize; 6] {
         let most =
             [Price::ROOM, Position::ROOM, Interconnection::ROOM, Reserve::ROOM, Failure::ROOM, Fine::ROOM];
