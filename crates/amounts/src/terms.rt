@@ -4,7 +4,7 @@ ghost use Prim.Native.Nat.{ℕ, _*_, _≤_};
 ghost use lib.IntN.{ℤ, natAbs, _+ℤ_, _-ℤ_, _*ℤ_};
 ghost use Rattle.std.specs.declared.option.Option.the-variants.{Some};
 ghost use Rattle.std.specs.shelf.Lists.{All};
-ghost use Rattle.amounts.specs.Terms.{class-buys, class-sign, exchange-energy, exchange-term, failed-term, fine-mils, imbalance-term, imbalance-value, market-price, net-export, position-energy, position-term, price-in, reserve-energy, reserve-price, reserve-term};
+ghost use Rattle.amounts.specs.Terms.{class-buys, class-sign, deviation, exchange-energy, exchange-term, failed-term, fine-mils, imbalance-term, imbalance-value, market-price, net-export, position-energy, position-term, price-in, reserve-energy, reserve-price, reserve-term};
 ghost use Rattle.amounts.specs.Valid.{ValidFine, ValidInterconnection, ValidPosition, ValidPrice, ValidReserve};
 use crate::grid::PriceGrid;
 use crate::market::Market;
@@ -79,6 +79,16 @@ fn price_for(prices: &PriceGrid, market: Market, node: u8, hour: u8) -> i64
     }
 }
 
+// A position's deviation: real-time energy less day-ahead energy.
+fn deviation_of(x: &Position) -> i64
+    requires { ⌜ ValidPosition (now x) ⌝ }
+    ensures value { λ r. ⌜ r ≡ deviation (now (x .entry)) ⌝ }
+    ensures bound { λ r. ⌜ natAbs r ≤ 2000000 ⌝ }
+{
+    let scheduled = x.day_ahead as i64;
+    x.real_time as i64 - scheduled
+}
+
 fn energy(market: Market, x: &Position) -> i64
     requires { ⌜ ValidPosition (now x) ⌝ }
     ensures value { λ r. ⌜ r ≡ position-energy market (now (x .entry)) ⌝ }
@@ -86,7 +96,7 @@ fn energy(market: Market, x: &Position) -> i64
 {
     match market {
         Market::DayAhead => x.day_ahead as i64,
-        Market::RealTime => x.real_time as i64 - x.day_ahead as i64,
+        Market::RealTime => deviation_of(x),
     }
 }
 

@@ -12,7 +12,7 @@ use Rattle.dayfile.specs.Records.{Records}
 use Rattle.codes.specs.Sums.{sum-over}
 use Rattle.amounts.specs.Items.{all-penalties, penalties}
 use Rattle.amounts.specs.Valid.{Sound}
-use Rattle.amounts.proofs.Bounds.{penalties-le}
+use Rattle.bounds.proofs.Bounds.{penalties-le}
 use Rattle.settlement.specs.Grown.{Penalized}
 
 sum-map : {X : Type 0} (f : X → ℤ) (xs : List X) → sum-over (λ (z : ℤ). z) (map f xs) ≡ sum-over f xs

@@ -20,7 +20,7 @@ use Rattle.codes.specs.declared.code.Code.{Code}
 use Rattle.codes.proofs.Codes.{code-at-index, index-below}
 use Rattle.amounts.specs.Amounts.{any-of, is-zero, lacking, lacks, shared, weights}
 use Rattle.amounts.specs.Valid.{Sound}
-use Rattle.amounts.proofs.Bounds.{shared-le, size-small, weights-length, weights-light}
+use Rattle.bounds.proofs.Bounds.{shared-le, size-small, weights-length, weights-light}
 
 pub zero-is : (z : ℤ) → is-zero z ≡ true → z ≡ pos 0
 zero-is (pos n) e = ap pos (eqb-true n 0 e)

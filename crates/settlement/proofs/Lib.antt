@@ -5,6 +5,3 @@ pub mod Lacking
 pub mod Shares
 pub mod Charged
 pub mod Small
-pub mod Rings
-pub mod Totals
-pub mod Balance

@@ -13,7 +13,7 @@ use Rattle.codes.specs.Parties.{system-party}
 use Rattle.codes.specs.Sums.{sum-over}
 use Rattle.amounts.specs.Amounts.{owned-by}
 use Rattle.amounts.proofs.Adding.{owns-nothing, sum-neg, sum-same, sum-same-all}
-use Rattle.amounts.proofs.Facts.{all-map}
+use Rattle.bounds.proofs.Facts.{all-map}
 use Rattle.settlement.specs.Sheets.{ByKind, amount-of, to-accounts, to-nobody, to-systems, to-universal-service, to-working-capital}
 
 abbrev is-account : ℕ → ℕ → Bool

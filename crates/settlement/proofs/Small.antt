@@ -29,9 +29,9 @@ use Rattle.amounts.specs.Items.{fines, penalties}
 use Rattle.amounts.specs.Terms.{first-of}
 use Rattle.amounts.specs.Valid.{Sound}
 use Rattle.amounts.specs.declared.market.Market.the-variants.{DayAhead, RealTime}
-use Rattle.amounts.proofs.Bounds.{all-fines-le, all-penalties-le, day-small, energy-size, fines-le, imbalance-size, penalties-le, reserve-size, shared-le, size, size-small}
+use Rattle.bounds.proofs.Bounds.{all-fines-le, all-penalties-le, day-small, energy-size, fines-le, imbalance-size, penalties-le, reserve-size, shared-le, size, size-small}
 use Rattle.amounts.proofs.Adding.{sum-push}
-use Rattle.amounts.proofs.Limits.{neg-le, sum-le}
+use Rattle.bounds.proofs.Limits.{neg-le, sum-le}
 use Rattle.settlement.specs.Days.{day-cell, item, items, sheets}
 use Rattle.settlement.specs.Sheets.{ByKind, amount-of, own, part, sheet, to-accounts, to-nobody}
 use Rattle.settlement.proofs.Lacking.{can-share, no-lack, weights-of}

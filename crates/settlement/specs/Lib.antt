@@ -1,4 +1,3 @@
 pub mod Sheets
 pub mod Days
 pub mod Grown
-pub mod Laws

@@ -1,7 +1,6 @@
 // The sheet of an hour and the table of a day, under any sharing rule.
 mod adding;
 mod items;
-pub mod laws;
 mod own;
 pub mod settle;
 mod shared;

@@ -11,7 +11,7 @@ use Rattle.codes.specs.Sums.{sum-over}
 use Rattle.amounts.specs.Amounts.{owned-by}
 use Rattle.amounts.specs.Terms.{fine-mils}
 use Rattle.amounts.specs.Valid.{Listed, ValidFine}
-use Rattle.amounts.proofs.Facts.{all-map}
+use Rattle.bounds.proofs.Facts.{all-map}
 use Rattle.settlement.proofs.PartyRows.{account-row, accounts-same, negated}
 use Rattle.settlement.proofs.Rows.{row-as}
 use Rattle.settlement.proofs.items.add_fines.Needs as need

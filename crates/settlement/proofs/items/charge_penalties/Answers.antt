@@ -7,7 +7,7 @@ use lib.IntN.{ℤ, negℤ, pos, natAbs}
 use lib.ListN.{getD, length}
 use Rattle.book.specs.Books.{held}
 use Rattle.amounts.specs.Items.{penalties}
-use Rattle.amounts.proofs.Limits.{neg-le}
+use Rattle.bounds.proofs.Limits.{neg-le}
 use Rattle.settlement.proofs.Charged.{charged-small}
 use Rattle.settlement.proofs.PartyRows.{accounts-have, accounts-same}
 use Rattle.settlement.proofs.Rows.{row-as}

@@ -7,7 +7,7 @@ use Rattle.std.proofs.shelf.Signed.{toZ-ofZ}
 use Rattle.book.specs.Books.{held}
 use Rattle.amounts.specs.Amounts.{owned-by}
 use Rattle.amounts.specs.Items.{all-penalties}
-use Rattle.amounts.proofs.Bounds.{all-penalties-le}
+use Rattle.bounds.proofs.Bounds.{all-penalties-le}
 use Rattle.settlement.proofs.Charged.{charged-small, charged-total}
 use Rattle.settlement.proofs.PartyRows.{capital-row}
 use Rattle.settlement.proofs.Rows.{row-as, row-one}

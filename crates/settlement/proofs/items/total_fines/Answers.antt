@@ -11,7 +11,7 @@ use Rattle.book.specs.Books.{held}
 use Rattle.codes.specs.Sums.{sum-over}
 use Rattle.amounts.specs.Terms.{fine-mils}
 use Rattle.amounts.specs.Valid.{ValidFine}
-use Rattle.amounts.proofs.Bounds.{all-fines-le}
+use Rattle.bounds.proofs.Bounds.{all-fines-le}
 use Rattle.settlement.proofs.items.total_fines.Needs as need
 
 pub sum-of-requires : need.sum-of-requires

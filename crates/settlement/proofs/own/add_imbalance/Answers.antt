@@ -14,7 +14,7 @@ use Rattle.codes.specs.Sums.{sum-over}
 use Rattle.amounts.specs.Amounts.{imbalance, owned-by}
 use Rattle.amounts.specs.Terms.{imbalance-term}
 use Rattle.amounts.specs.Valid.{ValidInterconnection}
-use Rattle.amounts.proofs.Facts.{all-map}
+use Rattle.bounds.proofs.Facts.{all-map}
 use Rattle.settlement.specs.Sheets.{amount-of, to-systems}
 use Rattle.settlement.proofs.PartyRows.{negated, system-row, systems-same}
 use Rattle.settlement.proofs.Rows.{row-as}

@@ -10,7 +10,7 @@ use Rattle.book.specs.Books.{held}
 use Rattle.codes.specs.Sums.{sum-over}
 use Rattle.amounts.specs.Items.{penalty-among}
 use Rattle.amounts.specs.Valid.{Listed, ValidReserve}
-use Rattle.amounts.proofs.Facts.{all-map}
+use Rattle.bounds.proofs.Facts.{all-map}
 use Rattle.settlement.proofs.settle.charge.Needs as need
 
 pub put-penalties-requires : need.put-penalties-requires

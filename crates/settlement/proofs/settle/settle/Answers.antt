@@ -1,5 +1,5 @@
 use Rattle.book.specs.Books.{held}
-use Rattle.amounts.proofs.Facts.{sound-facts}
+use Rattle.bounds.proofs.Facts.{sound-facts}
 use Rattle.settlement.proofs.settle.settle.Needs as need
 
 pub settle-priced-requires : need.settle-priced-requires

@@ -15,7 +15,7 @@ use Rattle.sharing.specs.Signed.{signed-parts}
 use Rattle.codes.specs.Codes.{basis-of}
 use Rattle.codes.specs.declared.code.Basis.the-variants.{Purchases}
 use Rattle.amounts.specs.Amounts.{shared, weights}
-use Rattle.amounts.proofs.Bounds.{shared-le, size-small, weights-length}
+use Rattle.bounds.proofs.Bounds.{shared-le, size-small, weights-length}
 use Rattle.settlement.specs.Sheets.{part}
 use Rattle.settlement.proofs.Lacking.{can-share, weights-of}
 use Rattle.settlement.proofs.PartyRows.{accounts-have}

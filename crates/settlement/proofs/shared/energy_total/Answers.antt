@@ -14,8 +14,8 @@ use Rattle.book.specs.Books.{held}
 use Rattle.codes.specs.Sums.{sum-over}
 use Rattle.amounts.specs.Terms.{position-term}
 use Rattle.amounts.specs.Valid.{ValidPosition, ValidPrice}
-use Rattle.amounts.proofs.Bounds.{all-energy, all-energy-le, size-small}
-use Rattle.amounts.proofs.Facts.{all-map}
+use Rattle.bounds.proofs.Bounds.{all-energy, all-energy-le, size-small}
+use Rattle.bounds.proofs.Facts.{all-map}
 use Rattle.settlement.proofs.shared.energy_total.Needs as need
 
 pub sum-of-requires : need.sum-of-requires

@@ -14,8 +14,8 @@ use Rattle.book.specs.Books.{held}
 use Rattle.codes.specs.Sums.{sum-over}
 use Rattle.amounts.specs.Terms.{imbalance-value}
 use Rattle.amounts.specs.Valid.{ValidInterconnection, ValidPrice}
-use Rattle.amounts.proofs.Bounds.{values-le, size-small}
-use Rattle.amounts.proofs.Facts.{all-map}
+use Rattle.bounds.proofs.Bounds.{values-le, size-small}
+use Rattle.bounds.proofs.Facts.{all-map}
 use Rattle.settlement.proofs.shared.imbalance_total.Needs as need
 
 pub sum-of-requires : need.sum-of-requires

@@ -1,5 +1,5 @@
 use Rattle.book.specs.Books.{held}
-use Rattle.amounts.proofs.Facts.{sound-facts}
+use Rattle.bounds.proofs.Facts.{sound-facts}
 use Rattle.settlement.proofs.sheet.fill_sheet.Needs as need
 
 pub fill-priced-requires : need.fill-priced-requires

@@ -8,7 +8,7 @@ use Rattle.dayfile.specs.declared.record.Position.{Position}
 use Rattle.book.specs.Books.{held}
 use Rattle.amounts.specs.Buying.{bought-sums}
 use Rattle.amounts.specs.Valid.{Listed, ValidPosition}
-use Rattle.amounts.proofs.Facts.{all-map}
+use Rattle.bounds.proofs.Facts.{all-map}
 use Rattle.settlement.proofs.sheet.put_weights.Needs as need
 
 pub put-purchases-requires : need.put-purchases-requires

@@ -32,16 +32,16 @@ use Rattle.amounts.specs.Terms.{exchange-term, fine-mils, imbalance-term, imbal
 use Rattle.amounts.specs.Valid.{Listed, Sound, ValidInterconnection}
 use Rattle.amounts.specs.declared.market.Market.the-variants.{DayAhead, RealTime}
 use Rattle.amounts.proofs.Adding.{by-owner, sum-add, sum-neg, sum-same, sum-zero}
-use Rattle.amounts.proofs.Bounds.{weights-length}
-use Rattle.amounts.proofs.Facts.{all-map, sound-facts}
+use Rattle.bounds.proofs.Bounds.{weights-length}
+use Rattle.bounds.proofs.Facts.{all-map, sound-facts}
 use Rattle.settlement.specs.Days.{day-cell, item, items, sheets}
-use Rattle.settlement.specs.Laws.{Cells-are-small, Days-balance, Parts-are-near, Shares-are-whole, Sheets-balance}
+use Rattle.settlement_laws.specs.Laws.{Cells-are-small, Days-balance, Parts-are-near, Shares-are-whole, Sheets-balance}
 use Rattle.settlement.specs.Sheets.{ByKind, amount-of, on-basis, own, part, sheet, to-accounts}
 use Rattle.settlement.proofs.Lacking.{can-share, no-lack, weights-of}
-use Rattle.settlement.proofs.Rings.{mul-subℤ}
+use Rattle.settlement_laws.proofs.Rings.{mul-subℤ}
 use Rattle.settlement.proofs.Shares.{part-near, parts-length}
 use Rattle.settlement.proofs.Small.{cell-le, none-then}
-use Rattle.settlement.proofs.Totals.{accounts-sum, listed-sum, row-total, sum-is, total-add}
+use Rattle.settlement_laws.proofs.Totals.{accounts-sum, listed-sum, row-total, sum-is, total-add}
 
 regroup : (pd rx re rd de : ℤ) → rx ≡ re -ℤ rd → pd +ℤ rx ≡ pd +ℤ re -ℤ rd -ℤ de +ℤ de
 regroup pd rx re rd de h = omega (arith, ints)

@@ -1,5 +1,5 @@
 // What holds of every sheet and of every settled day.
-ghost use Rattle.settlement.specs.Laws.{Cells-are-small, Days-balance, Parts-are-near, Shares-are-whole, Sheets-balance};
+ghost use Rattle.settlement_laws.specs.Laws.{Cells-are-small, Days-balance, Parts-are-near, Shares-are-whole, Sheets-balance};
 
 // Every sheet adds up to zero, its parts add up to what is shared, and each is less than one mil from its proportion.
 pub fn sheets_stand() -> u8
