@@ -26,7 +26,7 @@ use Rattle.loading.specs.Loading.{file-records, left-under, load-leaves, openin
 use Rattle.loading.proofs.Whole.{loaded-is-sound}
 use Rattle.dayfile.specs.Decoded.{and-then}
 use Rattle.settlement.specs.Days.{Filled, Holds, day-cell, lacking-fault, or-unpriced, outcome, settle-refusal}
-use Rattle.settlement.proofs.Balance.{cells-are-small}
+use Rattle.settlement_laws.proofs.Balance.{cells-are-small}
 use Rattle.sharing.specs.Running.{running}
 use Rattle.sharing.proofs.RunningFair.{running-fair}
 use Rattle.statement.specs.Statements.{statement-text}
