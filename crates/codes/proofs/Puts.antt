@@ -26,7 +26,7 @@ place-small : (n i : ℕ) → party-place n ≡ Some i → i < party-count
 place-small n i e = found-at (λ i. i < party-count) (party-place n) i e (place-below party-numbers n)
 
 -- two cells at one place are one
-one-place : (c d : Code) (i j : ℕ) → i < 38 → j < 38 → code-index c * 38 + i ≡ code-index d * 38 + j → (c ≡ d) × (i ≡ j)
+one-place : (c d : Code) (i j : ℕ) → i < party-count → j < party-count → code-index c * party-count + i ≡ code-index d * party-count + j → (c ≡ d) × (i ≡ j)
 one-place c d i j h k e = (same-code c d (omega arith), omega arith)
 
 module _ (t u : Table) (code : Code) (party : ℕ) (amount : ℤ) where
