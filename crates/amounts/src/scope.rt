@@ -1,22 +1,16 @@
 // What a record adds to the amounts of an hour: its term where it is of the hour, and 0 where not.
-ghost use mathlib.Core.Bool.{cond};
-ghost use lib.Dec.{eqb};
-ghost use lib.IntN.{pos, negℤ};
-ghost use denote.Ref.{now};
-ghost use Rattle·std.specs.shelf.Lists.{All};
-ghost use Rattle·valuation.specs.Terms.{exchange-term, imbalance-term, imbalance-value, position-term, reserve-term};
-ghost use Rattle·valuation.specs.Valid.{ValidInterconnection, ValidPosition, ValidPrice, ValidReserve};
+ghost use Rattle.std.specs.Prelude.{pos, neg_ℤ, if◌then◌else◌, nat_eq};
+ghost use Rattle.std.specs.List.{AllByRecursion as All};
+ghost use Rattle.valuation.specs.Terms.{exchange-term, imbalance-term, imbalance-value, position-term, reserve-term};
+ghost use Rattle.valuation.specs.Valid.{ValidInterconnection, ValidPosition, ValidPrice, ValidReserve};
+
 use crate::sums::Term;
-use dayfile::record::Interconnection;
-use dayfile::record::Position;
-use dayfile::record::Reserve;
+use dayfile::record::{Interconnection, Position, Reserve};
 use price_grid::grid::PriceGrid;
 use valuation::market::Market;
-use valuation::terms::exchange_term;
-use valuation::terms::imbalance_term;
-use valuation::terms::imbalance_value;
-use valuation::terms::position_term;
-use valuation::terms::reserve_term;
+use valuation::terms::{
+    exchange_term, imbalance_term, imbalance_value, position_term, reserve_term,
+};
 
 // Energy, or its deviation.
 #[derive(Clone, Copy)]
@@ -26,10 +20,10 @@ pub struct EnergyOf<'a> {
     pub hour: u8,
 }
 
-pub impl<'a> Term<Position> for EnergyOf<'a> as EnergyOfTerm {
-    ghost adds = { λ s x. cond (eqb (x .hour) (s .hour)) (position-term (now (now (s .prices) .prices)) (s .market) x) (pos 0) };
+impl<'a> Term<Position> for EnergyOf<'a> {
+    ghost adds = { λ s x. (if nat_eq x.hour s.hour then position-term s.prices.now.prices.now s.market x else pos 0) };
 
-    ghost valid = { λ s x. All ValidPrice (now (now (s .prices) .prices)) × ValidPosition x };
+    ghost valid = { λ s x. All ValidPrice s.prices.now.prices.now × ValidPosition x };
 
     fn term(&self, x: &Position) -> i64 {
         if x.hour == self.hour {
@@ -47,8 +41,8 @@ pub struct ReserveOf {
     pub hour: u8,
 }
 
-pub impl Term<Reserve> for ReserveOf as ReserveOfTerm {
-    ghost adds = { λ s x. cond (eqb (x .hour) (s .hour)) (reserve-term (s .market) x) (pos 0) };
+impl Term<Reserve> for ReserveOf {
+    ghost adds = { λ s x. (if nat_eq x.hour s.hour then reserve-term s.market x else pos 0) };
 
     ghost valid = { λ s x. ValidReserve x };
 
@@ -69,10 +63,10 @@ pub struct ExchangeOf<'a> {
     pub hour: u8,
 }
 
-pub impl<'a> Term<Interconnection> for ExchangeOf<'a> as ExchangeOfTerm {
-    ghost adds = { λ s x. cond (eqb (x .hour) (s .hour)) (exchange-term (now (now (s .prices) .prices)) (s .market) x) (pos 0) };
+impl<'a> Term<Interconnection> for ExchangeOf<'a> {
+    ghost adds = { λ s x. (if nat_eq x.hour s.hour then exchange-term s.prices.now.prices.now s.market x else pos 0) };
 
-    ghost valid = { λ s x. All ValidPrice (now (now (s .prices) .prices)) × ValidInterconnection x };
+    ghost valid = { λ s x. All ValidPrice s.prices.now.prices.now × ValidInterconnection x };
 
     fn term(&self, x: &Interconnection) -> i64 {
         if x.hour == self.hour {
@@ -90,10 +84,10 @@ pub struct ImbalanceValueOf<'a> {
     pub hour: u8,
 }
 
-pub impl<'a> Term<Interconnection> for ImbalanceValueOf<'a> as ImbalanceValueOfTerm {
-    ghost adds = { λ s x. cond (eqb (x .hour) (s .hour)) (imbalance-value (now (now (s .prices) .prices)) x) (pos 0) };
+impl<'a> Term<Interconnection> for ImbalanceValueOf<'a> {
+    ghost adds = { λ s x. (if nat_eq x.hour s.hour then imbalance-value s.prices.now.prices.now x else pos 0) };
 
-    ghost valid = { λ s x. All ValidPrice (now (now (s .prices) .prices)) × ValidInterconnection x };
+    ghost valid = { λ s x. All ValidPrice s.prices.now.prices.now × ValidInterconnection x };
 
     fn term(&self, x: &Interconnection) -> i64 {
         if x.hour == self.hour {
@@ -110,8 +104,8 @@ pub struct ImbalanceOf {
     pub hour: u8,
 }
 
-pub impl Term<Interconnection> for ImbalanceOf as ImbalanceOfTerm {
-    ghost adds = { λ s x. negℤ (cond (eqb (x .hour) (s .hour)) (imbalance-term x) (pos 0)) };
+impl Term<Interconnection> for ImbalanceOf {
+    ghost adds = { λ s x. neg_ℤ (if nat_eq x.hour s.hour then imbalance-term x else pos 0) };
 
     ghost valid = { λ s x. ValidInterconnection x };
 

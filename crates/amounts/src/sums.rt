@@ -1,10 +1,7 @@
 // One loop for every sum over records.
-ghost use mathlib.Core.Path.{_≡_};
-ghost use Prim.Native.Nat.{ℕ, _≤_};
-ghost use lib.ListN.{length};
-ghost use lib.IntN.{ℤ, natAbs};
-ghost use Rattle·std.specs.shelf.Lists.{All};
-ghost use Rattle·codes.specs.Sums.{sum-over};
+ghost use Rattle.std.specs.Prelude.{◌≡◌, ℕ, ◌≤◌, length, ℤ, unsigned_abs};
+ghost use Rattle.std.specs.List.{AllByRecursion as All};
+ghost use Rattle.codes.specs.Sums.{sum_over};
 
 // What a record adds to a sum.
 pub trait Term<X> {
@@ -14,15 +11,15 @@ pub trait Term<X> {
     ghost valid: { Self → X → Type 0 };
 
     fn term(&self, x: &X) -> i64
-        requires { ⌜ valid (now self) (now x) ⌝ }
-        ensures value { λ r. ⌜ r ≡ adds (now (self .entry)) (now (x .entry)) ⌝ }
-        ensures bound { λ r. ⌜ natAbs r ≤ 1000000000000000 ⌝ };
+        requires { valid self.now x.now }
+        ensures value { result ≡ adds self.now x.now }
+        ensures bound { unsigned_abs result ≤ 1000000000000000 };
 }
 
 pub fn sum_of<X, T: Term<X>>(t: &T, xs: &[X]) -> i64
-    requires few { ⌜ length (now xs) ≤ 1000 ⌝ }
-    requires valid { ⌜ All (T·Term .valid (now t)) (now xs) ⌝ }
-    ensures { λ r. ⌜ r ≡ sum-over (T·Term .adds (now (t .entry))) (now (xs .entry)) ⌝ }
+    requires few { length xs.now ≤ 1000 }
+    requires valid { All (T.Term.valid t.now) xs.now }
+    ensures { result ≡ sum_over (T.Term.adds t.now) xs.now }
 {
     let mut total: i64 = 0;
     for x in xs {

@@ -2,8 +2,7 @@
 use book::book::Book;
 use faults::fault::Fault;
 use loading::load::load;
-use std::alloc::AllocError;
-use std::alloc::Global;
+use std::alloc::{AllocError, Global};
 use std::io;
 
 // 2019-03-05, 24 hours, 3 accounts, 1 node, 1 interconnection.
@@ -35,34 +34,33 @@ fn with_fines(heap: Global, count: u8) -> Result<Vec<u8>, AllocError> {
 }
 
 // Number, layer, offset, account, node and hour of a fault, and how many records the book then holds.
-fn show_fault(rt: &LibcRuntime, name: &str, fault: &Fault, left: u128) -> io::Result<()> {
+fn show_fault(rt: &HostRuntime, name: &str, fault: &Fault, left: u128) -> io::Result<()> {
     let number = fault.number();
     let layer = fault.layer().number();
     let offset = fault.place.offset;
     let account = fault.place.account;
     let node = fault.place.node;
     let hour = fault.place.hour;
-    println!(
-        rt,
+    println!(rt;
         "{name}: refused {number} {layer} {offset} {account} {node} {hour}, {left} records"
     )
 }
 
-fn show(rt: &LibcRuntime, book: &mut Book, name: &str, file: &[u8]) -> io::Result<()> {
+fn show(rt: &HostRuntime, book: &mut Book, name: &str, file: &[u8]) -> io::Result<()> {
     let answer = load(book, file);
     let left = book.record_count();
     match answer {
-        Ok(()) => println!(rt, "{name}: accepted, {left} records"),
+        Ok(()) => println!(rt; "{name}: accepted, {left} records"),
         Err(fault) => show_fault(rt, name, &fault, left),
     }
 }
 
-fn show_parts(rt: &LibcRuntime, book: &mut Book, name: &str, parts: &[&[u8]]) -> io::Result<()> {
+fn show_parts(rt: &HostRuntime, book: &mut Book, name: &str, parts: &[&[u8]]) -> io::Result<()> {
     let file = joined(rt.alloc(), parts)?;
     show(rt, book, name, file.as_slice())
 }
 
-fn headings(rt: &LibcRuntime, book: &mut Book) -> io::Result<()> {
+fn headings(rt: &HostRuntime, book: &mut Book) -> io::Result<()> {
     show(rt, book, "an empty file", b"")?;
     show(rt, book, "one byte", b"D")?;
     show(rt, book, "a heading cut short", b"DY\x07\xe3\x03")?;
@@ -93,7 +91,7 @@ fn headings(rt: &LibcRuntime, book: &mut Book) -> io::Result<()> {
     )
 }
 
-fn records(rt: &LibcRuntime, book: &mut Book) -> io::Result<()> {
+fn records(rt: &HostRuntime, book: &mut Book) -> io::Result<()> {
     show_parts(rt, book, "an unknown mark", &[HEADING, b"QQ\x00\x01"])?;
     show_parts(
         rt,
@@ -156,7 +154,7 @@ fn records(rt: &LibcRuntime, book: &mut Book) -> io::Result<()> {
     show_parts(rt, book, "a price twice", &[HEADING, PRICE, PRICE])
 }
 
-fn ends(rt: &LibcRuntime, book: &mut Book) -> io::Result<()> {
+fn ends(rt: &HostRuntime, book: &mut Book) -> io::Result<()> {
     show_parts(rt, book, "no end", &[HEADING, PRICE])?;
     show_parts(
         rt,
@@ -203,7 +201,7 @@ fn ends(rt: &LibcRuntime, book: &mut Book) -> io::Result<()> {
     )
 }
 
-fn main(rt: LibcRuntime) -> io::Result<()> {
+fn main(rt: HostRuntime) -> io::Result<()> {
     let mut book = Book::new(rt.alloc())?;
     headings(&rt, &mut book)?;
     records(&rt, &mut book)?;

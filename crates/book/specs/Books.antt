@@ -1,35 +1,28 @@
 -- What a book holds, and what the calls make of it.
-use Prim.Native.Nat.{ℕ, _+_}
-use mathlib.Core.List.{List, [], _∷_, _++_}
-use lib.ListN.{length}
-use Rattle·std.specs.Of.Vec.{vec-items}
-use Rattle·std.specs.declared.option.Option.{Option}
-use Rattle·std.specs.declared.option.Option.the-variants.{Some, None}
-use Rattle·std.specs.declared.result.Result.{Result}
-use Rattle·std.specs.declared.result.Result.the-variants.{Ok, Err}
-use Rattle·faults.specs.Places.{fault-of}
-use Rattle·faults.specs.declared.fault.Fault.{Fault}
-use Rattle·faults.specs.declared.fault.Place.{Place}
-use Rattle·faults.specs.declared.refusal.Refusal.{Refusal}
-use Rattle·dayfile.specs.Records.{Records}
-use Rattle·dayfile.specs.declared.heading.Heading.{Heading}
-use Rattle·dayfile.specs.declared.record.Record.{Record}
-use Rattle·dayfile.specs.declared.record.Record.the-variants.{Price, Position, Interconnection, Reserve, Failure, Fine}
-use Rattle·decoding.specs.Decoded.{and-then, decoded-record, place-of}
-use Rattle·rows.specs.Kinds.{price-terms, position-terms, interconnection-terms, reserve-terms, failure-terms, fine-terms}
-use Rattle·rows.specs.Tables.{row-refusal}
-use Rattle·book·specs.declared.book.Book.{Book}
-use Rattle·book·specs.declared.counts.Counts.{Counts}
+use Rattle.std.specs.Prelude.{ℕ, ◌+◌, List, [], ◌∷◌, ◌++◌, length, Some, None, Ok, Err, vec_items, Option, Result}
+use Rattle.faults.specs.Places.{fault-of}
+use Rattle.faults.specs.declared.fault.Fault.{Fault}
+use Rattle.faults.specs.declared.fault.Place.{Place}
+use Rattle.faults.specs.declared.refusal.Refusal.{Refusal}
+use Rattle.dayfile.specs.Records.{Records}
+use Rattle.dayfile.specs.declared.heading.Heading.{Heading}
+use Rattle.dayfile.specs.declared.record.Record.{Record}
+use Rattle.dayfile.specs.declared.record.Record.TheVariants.{Price, Position, Interconnection, Reserve, Failure, Fine}
+use Rattle.decoding.specs.Decoded.{and_then, decoded-record, place_of}
+use Rattle.rows.specs.Kinds.{price-terms, position-terms, interconnection-terms, reserve-terms, failure-terms, fine-terms}
+use Rattle.rows.specs.Tables.{row-refusal}
+use Rattle.book.specs.declared.book.Book.{Book}
+use Rattle.book.specs.declared.counts.Counts.{Counts}
 
 abbrev pub held : Book → Records
 held book = record {
-  heading = book .heading;
-  prices = vec-items (book .prices);
-  positions = vec-items (book .positions);
-  interconnections = vec-items (book .interconnections);
-  reserves = vec-items (book .reserves);
-  failures = vec-items (book .failures);
-  fines = vec-items (book .fines);
+  heading = book.heading;
+  prices = vec_items book.prices;
+  positions = vec_items book.positions;
+  interconnections = vec_items book.interconnections;
+  reserves = vec_items book.reserves;
+  failures = vec_items book.failures;
+  fines = vec_items book.fines;
 }
 
 -- a heading, and no record of any kind
@@ -49,39 +42,39 @@ abbrev pub new-heading : Heading
 new-heading = record { year = 2016; month = 1; day = 1; hours = 24; accounts = 1; nodes = 1; interconnections = 0; real = tt }
 
 -- how many records of each kind there are
-abbrev pub counts-of : Records → Counts
-counts-of b = record {
-  prices = length (b .prices);
-  positions = length (b .positions);
-  interconnections = length (b .interconnections);
-  reserves = length (b .reserves);
-  failures = length (b .failures);
-  fines = length (b .fines);
+abbrev pub counts_of : Records → Counts
+counts_of b = record {
+  prices = length b.prices;
+  positions = length b.positions;
+  interconnections = length b.interconnections;
+  reserves = length b.reserves;
+  failures = length b.failures;
+  fines = length b.fines;
 }
 
 -- and of all kinds together
 abbrev pub record-count : Records → ℕ
 record-count b =
-    length (b .prices) + (length (b .positions) + (length (b .interconnections)
-    + (length (b .reserves) + (length (b .failures) + length (b .fines)))))
+    length b.prices + (length b.positions + (length b.interconnections
+    + (length b.reserves + (length b.failures + length b.fines))))
 
 -- why a record cannot be entered, if so
 abbrev pub record-refusal : Records → Record → Option Refusal
-record-refusal b (Price p) = row-refusal price-terms (b .heading) (b .prices) p
-record-refusal b (Position p) = row-refusal position-terms (b .heading) (b .positions) p
-record-refusal b (Interconnection p) = row-refusal interconnection-terms (b .heading) (b .interconnections) p
-record-refusal b (Reserve p) = row-refusal reserve-terms (b .heading) (b .reserves) p
-record-refusal b (Failure p) = row-refusal failure-terms (b .heading) (b .failures) p
-record-refusal b (Fine p) = row-refusal fine-terms (b .heading) (b .fines) p
+record-refusal b (Price p) = row-refusal price-terms b.heading b.prices p
+record-refusal b (Position p) = row-refusal position-terms b.heading b.positions p
+record-refusal b (Interconnection p) = row-refusal interconnection-terms b.heading b.interconnections p
+record-refusal b (Reserve p) = row-refusal reserve-terms b.heading b.reserves p
+record-refusal b (Failure p) = row-refusal failure-terms b.heading b.failures p
+record-refusal b (Fine p) = row-refusal fine-terms b.heading b.fines p
 
 -- the records with one more, the last of its kind
 abbrev pub with-record : Records → Record → Records
-with-record b (Price p) = record { heading = b .heading; prices = b .prices ++ p ∷ []; positions = b .positions; interconnections = b .interconnections; reserves = b .reserves; failures = b .failures; fines = b .fines }
-with-record b (Position p) = record { heading = b .heading; prices = b .prices; positions = b .positions ++ p ∷ []; interconnections = b .interconnections; reserves = b .reserves; failures = b .failures; fines = b .fines }
-with-record b (Interconnection p) = record { heading = b .heading; prices = b .prices; positions = b .positions; interconnections = b .interconnections ++ p ∷ []; reserves = b .reserves; failures = b .failures; fines = b .fines }
-with-record b (Reserve p) = record { heading = b .heading; prices = b .prices; positions = b .positions; interconnections = b .interconnections; reserves = b .reserves ++ p ∷ []; failures = b .failures; fines = b .fines }
-with-record b (Failure p) = record { heading = b .heading; prices = b .prices; positions = b .positions; interconnections = b .interconnections; reserves = b .reserves; failures = b .failures ++ p ∷ []; fines = b .fines }
-with-record b (Fine p) = record { heading = b .heading; prices = b .prices; positions = b .positions; interconnections = b .interconnections; reserves = b .reserves; failures = b .failures; fines = b .fines ++ p ∷ [] }
+with-record b (Price p) = record { heading = b.heading; prices = b.prices ++ p ∷ []; positions = b.positions; interconnections = b.interconnections; reserves = b.reserves; failures = b.failures; fines = b.fines }
+with-record b (Position p) = record { heading = b.heading; prices = b.prices; positions = b.positions ++ p ∷ []; interconnections = b.interconnections; reserves = b.reserves; failures = b.failures; fines = b.fines }
+with-record b (Interconnection p) = record { heading = b.heading; prices = b.prices; positions = b.positions; interconnections = b.interconnections ++ p ∷ []; reserves = b.reserves; failures = b.failures; fines = b.fines }
+with-record b (Reserve p) = record { heading = b.heading; prices = b.prices; positions = b.positions; interconnections = b.interconnections; reserves = b.reserves ++ p ∷ []; failures = b.failures; fines = b.fines }
+with-record b (Failure p) = record { heading = b.heading; prices = b.prices; positions = b.positions; interconnections = b.interconnections; reserves = b.reserves; failures = b.failures ++ p ∷ []; fines = b.fines }
+with-record b (Fine p) = record { heading = b.heading; prices = b.prices; positions = b.positions; interconnections = b.interconnections; reserves = b.reserves; failures = b.failures; fines = b.fines ++ p ∷ [] }
 
 -- a value for which a reason was looked for: the value where there is none, or the fault at its place
 abbrev pub unless : {X : Type 0} → Option Refusal → Place → X → Result X Fault
@@ -90,7 +83,7 @@ unless (Some reason) place x = Err (fault-of reason place)
 
 -- the record if it can be entered, or why not
 abbrev pub admission : Records → Record → Result Record Fault
-admission b x = unless (record-refusal b x) (place-of x) x
+admission b x = unless (record-refusal b x) (place_of x) x
 
 -- what a call answers that found this
 abbrev pub answer : {X : Type 0} → Result X Fault → Result (Unit {0}) Fault
@@ -99,7 +92,7 @@ answer (Err f) = Err f
 
 -- the record that the bytes say if it can be entered, or the first fault
 abbrev pub admitted : Records → List ℕ → Result Record Fault
-admitted b bytes = and-then (decoded-record bytes) (admission b)
+admitted b bytes = and_then (decoded-record bytes) (admission b)
 
 -- the records after a record was entered or refused
 abbrev pub entered : Records → Result Record Fault → Records

@@ -1,36 +1,23 @@
 // Making a book, and entering records into it.
-ghost use mathlib.Core.Path.{_≡_};
-ghost use Rattle·std.specs.Vec.{made};
-ghost use Rattle·std.specs.declared.option.Option.the-variants.{None};
-ghost use Rattle·decoding.specs.Decoded.{decoded-heading};
-ghost use Rattle·book·specs.Books.{admission, admitted, answer, entered, held, new-heading, no-records, opened, record-refusal, with-record};
+ghost use Rattle.std.specs.Prelude.{◌≡◌, IfOk, None};
+ghost use Rattle.decoding.specs.Decoded.{decoded-heading};
+ghost use Rattle.book.specs.Books.{admission, admitted, answer, entered, held, new-heading, no-records, opened, record-refusal, with-record};
+
 use crate::book::Book;
 use dayfile::heading::Heading;
 use dayfile::record::Record;
-use decoding::decode::decode_heading;
-use decoding::decode::decode_record;
-use decoding::decode::place_of;
+use decoding::decode::{decode_heading, decode_record, place_of};
 use faults::fault::Fault;
 use faults::refusal::Refusal;
-use rows::kinds::FAILURE_ROOM;
-use rows::kinds::FINE_ROOM;
-use rows::kinds::FailureRow;
-use rows::kinds::FineRow;
-use rows::kinds::INTERCONNECTION_ROOM;
-use rows::kinds::InterconnectionRow;
-use rows::kinds::POSITION_ROOM;
-use rows::kinds::PRICE_ROOM;
-use rows::kinds::PositionRow;
-use rows::kinds::PriceRow;
-use rows::kinds::RESERVE_ROOM;
-use rows::kinds::ReserveRow;
+use rows::kinds::{
+    FAILURE_ROOM, FINE_ROOM, INTERCONNECTION_ROOM, POSITION_ROOM, PRICE_ROOM, RESERVE_ROOM,
+};
 use rows::table::refusal_after;
-use std::alloc::AllocError;
-use std::alloc::Global;
+use std::alloc::{AllocError, Global};
 
 // What a new book has for a heading.
 fn new_heading() -> Heading
-    ensures { λ r. ⌜ r ≡ new-heading ⌝ }
+    ensures { result ≡ new-heading }
 {
     Heading {
         year: 2016,
@@ -46,13 +33,13 @@ fn new_heading() -> Heading
 impl Book {
     // An empty book. This is the only call that asks for memory.
     pub fn new(heap: Global) -> Result<Book, AllocError>
-        ensures { λ r. ⌜ made r (λ book. held book ≡ no-records new-heading) ⌝ }
+        ensures { IfOk result (λ book. held book ≡ no-records new-heading) }
     {
         Book::with_heading(heap, new_heading())
     }
 
     fn with_heading(heap: Global, heading: Heading) -> Result<Book, AllocError>
-        ensures { λ r. ⌜ made r (λ book. held book ≡ no-records heading) ⌝ }
+        ensures { IfOk result (λ book. held book ≡ no-records heading) }
     {
         let prices = Vec::with_capacity(heap, PRICE_ROOM)?;
         let positions = Vec::with_capacity(heap, POSITION_ROOM)?;
@@ -73,7 +60,7 @@ impl Book {
 
     // Another heading, and no record of any kind.
     pub fn clear(&mut self, heading: Heading)
-        ensures { λ _. ⌜ held (now (self .exit)) ≡ no-records heading ⌝ }
+        ensures { held self.new ≡ no-records heading }
     {
         self.heading = heading;
         self.prices.clear();
@@ -86,7 +73,7 @@ impl Book {
 
     // Why the record cannot be entered, if so.
     pub fn record_refusal(&self, item: &Record) -> Option<Refusal>
-        ensures { λ r. ⌜ r ≡ record-refusal (held (now (self .entry))) (now (item .entry)) ⌝ }
+        ensures { result ≡ record-refusal (held self.now) item.now }
     {
         let heading = &self.heading;
         match item {
@@ -105,8 +92,8 @@ impl Book {
 
     // Adds a record that is not refused at the end of its table. The room is there: nothing is allocated.
     fn add(&mut self, item: Record)
-        requires { ⌜ record-refusal (held (now self)) item ≡ None ⌝ }
-        ensures { λ _. ⌜ held (now (self .exit)) ≡ with-record (held (now (self .entry))) item ⌝ }
+        requires { record-refusal (held self.old) item ≡ None }
+        ensures { held self.new ≡ with-record (held self.old) item }
     {
         match item {
             Record::Price(p) => self.prices.push_reserved(p),
@@ -120,8 +107,8 @@ impl Book {
 
     // Enters a record, unless there is a reason against it.
     pub fn enter_record(&mut self, item: Record) -> Result<(), Fault>
-        ensures value { λ r. ⌜ r ≡ answer (admission (held (now (self .entry))) item) ⌝ }
-        ensures after { λ _. ⌜ held (now (self .exit)) ≡ entered (held (now (self .entry))) (admission (held (now (self .entry))) item) ⌝ }
+        ensures value { result ≡ answer (admission (held self.old) item) }
+        ensures after { held self.new ≡ entered (held self.old) (admission (held self.old) item) }
     {
         if let Some(refusal) = self.record_refusal(&item) {
             return Err(Fault::new(refusal, place_of(&item)));
@@ -132,8 +119,8 @@ impl Book {
 
     // Begins a day with the heading that the bytes say, and no record; or leaves all as it is.
     pub fn open(&mut self, bytes: &[u8]) -> Result<(), Fault>
-        ensures value { λ r. ⌜ r ≡ answer (decoded-heading (now (bytes .entry))) ⌝ }
-        ensures after { λ _. ⌜ held (now (self .exit)) ≡ opened (held (now (self .entry))) (decoded-heading (now (bytes .entry))) ⌝ }
+        ensures value { result ≡ answer (decoded-heading bytes.now) }
+        ensures after { held self.new ≡ opened (held self.old) (decoded-heading bytes.now) }
     {
         match decode_heading(bytes) {
             Ok(heading) => {
@@ -146,8 +133,8 @@ impl Book {
 
     // Enters the record that the bytes say, unless there is a reason against it.
     pub fn enter(&mut self, bytes: &[u8]) -> Result<(), Fault>
-        ensures value { λ r. ⌜ r ≡ answer (admitted (held (now (self .entry))) (now (bytes .entry))) ⌝ }
-        ensures after { λ _. ⌜ held (now (self .exit)) ≡ entered (held (now (self .entry))) (admitted (held (now (self .entry))) (now (bytes .entry))) ⌝ }
+        ensures value { result ≡ answer (admitted (held self.old) bytes.now) }
+        ensures after { held self.new ≡ entered (held self.old) (admitted (held self.old) bytes.now) }
     {
         match decode_record(bytes) {
             Ok(item) => self.enter_record(item),

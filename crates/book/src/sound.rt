@@ -1,22 +1,17 @@
 // Whether a book could have been entered as it stands.
-ghost use mathlib.Core.Path.{_≡_};
-ghost use Rattle·book·specs.Books.{counts-of, held, record-count};
-ghost use Rattle·book·specs.Soundness.{Day-tells-heading-and-counts, Entering-keeps-sound, Opened-is-sound, Sound-is-of-its-day, Sound-with-record, records-of-day, same-counts, sound-records};
+ghost use Rattle.std.specs.Prelude.{◌≡◌};
+ghost use Rattle.book.specs.Books.{counts_of, held, record-count};
+ghost use Rattle.book.specs.Soundness.{Day-tells-heading-and-counts, Entering-keeps-sound, Opened-is-sound, Sound-is-of-its-day, Sound-with-record, records-of-day, same-counts, sound-records};
+
 use crate::book::Book;
 use crate::counts::Counts;
 use dayfile::calendar::same_heading;
 use dayfile::heading::Heading;
-use rows::kinds::FailureRow;
-use rows::kinds::FineRow;
-use rows::kinds::InterconnectionRow;
-use rows::kinds::PositionRow;
-use rows::kinds::PriceRow;
-use rows::kinds::ReserveRow;
 use rows::table::are_sound;
 
 impl Counts {
     fn is_same(&self, other: &Counts) -> bool
-        ensures { λ r. ⌜ r ≡ same-counts (now (self .entry)) (now (other .entry)) ⌝ }
+        ensures { result ≡ same-counts self.now other.now }
     {
         self.prices == other.prices
             && self.positions == other.positions
@@ -30,7 +25,7 @@ impl Counts {
 impl Book {
     // How many records of each kind there are.
     pub fn counts(&self) -> Counts
-        ensures { λ r. ⌜ r ≡ counts-of (held (now (self .entry))) ⌝ }
+        ensures { result ≡ counts_of (held self.now) }
     {
         Counts {
             prices: self.prices.len(),
@@ -44,7 +39,7 @@ impl Book {
 
     // How many records of all kinds there are: a number wide enough for any book.
     pub fn record_count(&self) -> u128
-        ensures { λ r. ⌜ r ≡ record-count (held (now (self .entry))) ⌝ }
+        ensures { result ≡ record-count (held self.now) }
     {
         let counts = self.counts();
         counts.prices as u128
@@ -55,7 +50,7 @@ impl Book {
 
     // Could these records have been entered, kind by kind, in this order?
     pub fn is_sound(&self) -> bool
-        ensures { λ r. ⌜ r ≡ sound-records (held (now (self .entry))) ⌝ }
+        ensures { result ≡ sound-records (held self.now) }
     {
         are_sound(&self.heading, self.prices.as_slice())
             && are_sound(&self.heading, self.positions.as_slice())
@@ -67,7 +62,7 @@ impl Book {
 
     // Is this a sound book with this heading and these counts?
     pub fn is_of_day(&self, heading: &Heading, counts: &Counts) -> bool
-        ensures { λ r. ⌜ r ≡ records-of-day (now (heading .entry)) (now (counts .entry)) (held (now (self .entry))) ⌝ }
+        ensures { result ≡ records-of-day heading.now counts.now (held self.now) }
     {
         same_heading(*heading, self.heading) && counts.is_same(&self.counts()) && self.is_sound()
     }
@@ -75,11 +70,11 @@ impl Book {
 
 // What keeps a book sound.
 pub fn soundness_stands() -> u8
-    ensures opened { λ _. ⌜ Opened-is-sound ⌝ }
-    ensures entered { λ _. ⌜ Entering-keeps-sound ⌝ }
-    ensures exactly { λ _. ⌜ Sound-with-record ⌝ }
-    ensures own { λ _. ⌜ Sound-is-of-its-day ⌝ }
-    ensures told { λ _. ⌜ Day-tells-heading-and-counts ⌝ }
+    ensures opened { Opened-is-sound }
+    ensures entered { Entering-keeps-sound }
+    ensures exactly { Sound-with-record }
+    ensures own { Sound-is-of-its-day }
+    ensures told { Day-tells-heading-and-counts }
 {
     0
 }

@@ -1,116 +1,106 @@
 -- How large sums can be.
-use mathlib.Core.Bool.{Bool, true, false, cond, _&&_}
-use mathlib.Core.List.{List, [], _∷_, map}
-use mathlib.Core.Logic.{⊎-elim}
-use mathlib.Core.Path.{_≡_, refl, sym, ap, _∙_}
-use Prim.Native.Nat.{ℕ, zero, suc, _+_, _*_, _<_, _≤_}
-use native.Mathlib.Nat.{add-mul, zero-mul}
-use native.Mathlib.Omega.{arith}
+use Rattle.std.proofs.Common.{◌≡◌, ℕ, zero, suc, ◌+◌, ◌*◌, ◌<◌, ◌≤◌, Bool, true, false, cond, ◌&&◌, eqb, List, [], ◌∷◌, map, length, ℤ, pos, ◌+ℤ◌, ◌-ℤ◌, neg_ℤ, nat_abs, sum_by, sym, refl, ap, ◌∙◌, ⊎_elim, add-mul, zero-mul, arith}
 use borrow.Author.Differences.{ints}
-use lib.Dec.{eqb}
-use lib.IntN.{ℤ, pos, negℤ, natAbs, _+ℤ_, _-ℤ_}
-use lib.ListN.{length}
-use Rattle·std.specs.Iters.{counting}
-use Rattle·std.specs.shelf.Lists.{All, sumBy}
-use Rattle·std.proofs.shelf.Sums.{sumBy-cons}
-use Rattle·std.proofs.shelf.Tests.{cases-eq, eq-eqb, ne-eqb}
-use Rattle·codes.specs.Sums.{sum-over}
+use Rattle.std.specs.List.{range_with_len, AllByRecursion as All}
+use Rattle.std.proofs.lemmas.List.Sums.{sum_by-cons}
+use Rattle.std.proofs.lemmas.Bool.{cases_eq, eq-eqb, ne_eqb}
+use Rattle.codes.specs.Sums.{sum_over}
 
-pub natAbs-add : (a b : ℤ) → natAbs (a +ℤ b) ≤ natAbs a + natAbs b
+pub natAbs-add : (a b : ℤ) → nat_abs (a +ℤ b) ≤ nat_abs a + nat_abs b
 natAbs-add a b = omega (arith, ints)
 
-pub neg-le : (z : ℤ) (n : ℕ) → natAbs z ≤ n → natAbs (negℤ z) ≤ n
+pub neg-le : (z : ℤ) (n : ℕ) → nat_abs z ≤ n → nat_abs (neg_ℤ z) ≤ n
 neg-le z n h = omega (arith, ints)
 
-pub sub-le : (y z : ℤ) (m n : ℕ) → natAbs y ≤ m → natAbs z ≤ n → natAbs (y -ℤ z) ≤ m + n
+pub sub-le : (y z : ℤ) (m n : ℕ) → nat_abs y ≤ m → nat_abs z ≤ n → nat_abs (y -ℤ z) ≤ m + n
 sub-le y z m n h k = omega (arith, ints)
 
 -- a sum is at most the sum of what bounds its terms
-pub sum-le : {X : Type 0} (f : X → ℤ) (g : X → ℕ) (xs : List X) → All (λ x. natAbs (f x) ≤ g x) xs → natAbs (sum-over f xs) ≤ sumBy g xs
+pub sum-le : {X : Type 0} (f : X → ℤ) (g : X → ℕ) (xs : List X) → All (λ x. nat_abs (f x) ≤ g x) xs → nat_abs (sum_over f xs) ≤ sum_by g xs
 sum-le f g [] h = omega arith
-sum-le f g (x ∷ xs) h = omega (arith, natAbs-add (f x) (sum-over f xs), h .0, sum-le f g xs (h .1), sumBy-cons g x xs)
+sum-le f g (x ∷ xs) h = omega (arith, natAbs-add (f x) (sum_over f xs), h.0, sum-le f g xs h.1, sum_by-cons g x xs)
 
-pub all-any : {X : Type 0} (P : X → Type 0) → ((x : X) → P x) → (xs : List X) → All P xs
-all-any P f [] = tt
-all-any P f (x ∷ xs) = (f x, all-any P f xs)
+pub all_any : {X : Type 0} (P : X → Type 0) → ((x : X) → P x) → (xs : List X) → All P xs
+all_any P f [] = tt
+all_any P f (x ∷ xs) = (f x, all_any P f xs)
 
-pub none-by : {Y : Type 0} (ys : List Y) → sumBy (λ (y : Y). 0) ys ≡ 0
+pub none-by : {Y : Type 0} (ys : List Y) → sum_by (λ (y : Y). 0) ys ≡ 0
 none-by [] = refl
-none-by {Y = Y} (y ∷ ys) = omega (arith, sumBy-cons {X = Y} (λ _. 0) y ys, none-by ys)
+none-by {Y = Y} (y ∷ ys) = omega (arith, sum_by-cons {X = Y} (λ _. 0) y ys, none-by ys)
 
-pub sumBy-add : {Y : Type 0} (f g : Y → ℕ) (ys : List Y) → sumBy (λ y. f y + g y) ys ≡ sumBy f ys + sumBy g ys
+pub sumBy-add : {Y : Type 0} (f g : Y → ℕ) (ys : List Y) → sum_by (λ y. f y + g y) ys ≡ sum_by f ys + sum_by g ys
 sumBy-add f g [] = refl
-sumBy-add f g (y ∷ ys) = omega (arith, sumBy-cons (λ y. f y + g y) y ys, sumBy-cons f y ys, sumBy-cons g y ys, sumBy-add f g ys)
+sumBy-add f g (y ∷ ys) = omega (arith, sum_by-cons (λ y. f y + g y) y ys, sum_by-cons f y ys, sum_by-cons g y ys, sumBy-add f g ys)
 
-pub sumBy-same : {X : Type 0} (f g : X → ℕ) → ((x : X) → f x ≡ g x) → (xs : List X) → sumBy f xs ≡ sumBy g xs
+pub sumBy-same : {X : Type 0} (f g : X → ℕ) → ((x : X) → f x ≡ g x) → (xs : List X) → sum_by f xs ≡ sum_by g xs
 sumBy-same f g h [] = refl
-sumBy-same f g h (x ∷ xs) = sumBy-cons f x xs ∙ (λ i. h x i + sumBy-same f g h xs i) ∙ sym (sumBy-cons g x xs)
+sumBy-same f g h (x ∷ xs) = sum_by-cons f x xs ∙ (λ i. h x i + sumBy-same f g h xs i) ∙ sym (sum_by-cons g x xs)
 
-pub sumBy-mono : {X : Type 0} (f g : X → ℕ) → ((x : X) → f x ≤ g x) → (xs : List X) → sumBy f xs ≤ sumBy g xs
+pub sumBy-mono : {X : Type 0} (f g : X → ℕ) → ((x : X) → f x ≤ g x) → (xs : List X) → sum_by f xs ≤ sum_by g xs
 sumBy-mono f g h [] = omega arith
-sumBy-mono f g h (x ∷ xs) = omega (arith, sumBy-cons f x xs, sumBy-cons g x xs, h x, sumBy-mono f g h xs)
+sumBy-mono f g h (x ∷ xs) = omega (arith, sum_by-cons f x xs, sum_by-cons g x xs, h x, sumBy-mono f g h xs)
 
 -- sums over two lists, in either order
-pub swap : {X Y : Type 0} (g : X → Y → ℕ) (xs : List X) (ys : List Y) → sumBy (λ x. sumBy (g x) ys) xs ≡ sumBy (λ y. sumBy (λ x. g x y) xs) ys
+pub swap : {X Y : Type 0} (g : X → Y → ℕ) (xs : List X) (ys : List Y) → sum_by (λ x. sum_by (g x) ys) xs ≡ sum_by (λ y. sum_by (λ x. g x y) xs) ys
 swap g [] ys = sym (none-by ys)
 swap g (x ∷ xs) ys =
-    sumBy-cons (λ x. sumBy (g x) ys) x xs ∙ ap (λ n. sumBy (g x) ys + n) (swap g xs ys) ∙ sym (sumBy-add (g x) (λ y. sumBy (λ x. g x y) xs) ys)
-    ∙ sumBy-same _ _ (λ y. sym (sumBy-cons (λ x. g x y) x xs)) ys
+    sum_by-cons (λ x. sum_by (g x) ys) x xs ∙ ap (λ n. sum_by (g x) ys + n) (swap g xs ys) ∙ sym (sumBy-add (g x) (λ y. sum_by (λ x. g x y) xs) ys)
+    ∙ sumBy-same _ _ (λ y. sym (sum_by-cons (λ x. g x y) x xs)) ys
 
 abbrev only : ℕ → ℕ → ℕ → ℕ
 only key v k = cond (eqb key k) v 0
 
-no-hit : (key v a n : ℕ) → key < a → sumBy (only key v) (counting a n) ≡ 0
-no-hit key v a zero h = refl
-no-hit key v a (suc n) h =
-    let e : eqb key a ≡ false = ne-eqb key a (λ p. omega arith) in
+no_hit : (key v a n : ℕ) → key < a → sum_by (only key v) (range_with_len a n) ≡ 0
+no_hit key v a zero h = refl
+no_hit key v a (suc n) h =
+    let e : eqb key a ≡ false = ne_eqb key a (λ p. omega arith) in
     let z : only key v a ≡ 0 = rw e refl in
-    omega (arith, sumBy-cons (only key v) a (counting (a + 1) n), z, no-hit key v (a + 1) n (omega arith))
+    omega (arith, sum_by-cons (only key v) a (range_with_len (a + 1) n), z, no_hit key v (a + 1) n (omega arith))
 
-one-hit : (key v a n : ℕ) → sumBy (only key v) (counting a n) ≤ v
-one-hit key v a zero = omega arith
-one-hit key v a (suc n) =
-    ⊎-elim
+one_hit : (key v a n : ℕ) → sum_by (only key v) (range_with_len a n) ≤ v
+one_hit key v a zero = omega arith
+one_hit key v a (suc n) =
+    ⊎_elim
     (λ (e : key ≡ a).
     let t : eqb key a ≡ true = eq-eqb key a e in
     let z : only key v a ≡ v = rw t refl in
-    omega (arith, sumBy-cons (only key v) a (counting (a + 1) n), z, no-hit key v (a + 1) n (omega arith)))
+    omega (arith, sum_by-cons (only key v) a (range_with_len (a + 1) n), z, no_hit key v (a + 1) n (omega arith)))
     (λ (ne : key ≡ a → ⊥).
-    let t : eqb key a ≡ false = ne-eqb key a ne in
+    let t : eqb key a ≡ false = ne_eqb key a ne in
     let z : only key v a ≡ 0 = rw t refl in
-    omega (arith, sumBy-cons (only key v) a (counting (a + 1) n), z, one-hit key v (a + 1) n))
-    (cases-eq key a)
+    omega (arith, sum_by-cons (only key v) a (range_with_len (a + 1) n), z, one_hit key v (a + 1) n))
+    (cases_eq key a)
 
 -- what each key has, over all keys counted, is at most the whole
-pub by-key-le : {X : Type 0} (key : X → ℕ) (v : X → ℕ) (c a n : ℕ) (xs : List X) → All (λ x. v x ≤ c) xs → sumBy (λ k. sumBy (λ x. cond (eqb (key x) k) (v x) 0) xs) (counting a n) ≤ length xs * c
-by-key-le key v c a n [] h = omega (arith, none-by (counting a n))
+pub by-key-le : {X : Type 0} (key : X → ℕ) (v : X → ℕ) (c a n : ℕ) (xs : List X) → All (λ x. v x ≤ c) xs → sum_by (λ k. sum_by (λ x. cond (eqb (key x) k) (v x) 0) xs) (range_with_len a n) ≤ length xs * c
+by-key-le key v c a n [] h = omega (arith, none-by (range_with_len a n))
 by-key-le key v c a n (x ∷ xs) h =
-    let f : ℕ → ℕ = λ k. sumBy (λ x. cond (eqb (key x) k) (v x) 0) xs in
-    let e : sumBy (λ k. sumBy (λ x. cond (eqb (key x) k) (v x) 0) (x ∷ xs)) (counting a n) ≡ sumBy (only (key x) (v x)) (counting a n) + sumBy f (counting a n) =
-    sumBy-same _ _ (λ k. sumBy-cons (λ y. cond (eqb (key y) k) (v y) 0) x xs) (counting a n) ∙ sumBy-add (only (key x) (v x)) f (counting a n) in
-    omega (arith, e, one-hit (key x) (v x) a n, h .0, by-key-le key v c a n xs (h .1))
+    let f : ℕ → ℕ = λ k. sum_by (λ x. cond (eqb (key x) k) (v x) 0) xs in
+    let e : sum_by (λ k. sum_by (λ x. cond (eqb (key x) k) (v x) 0) (x ∷ xs)) (range_with_len a n) ≡ sum_by (only (key x) (v x)) (range_with_len a n) + sum_by f (range_with_len a n) =
+    sumBy-same _ _ (λ k. sum_by-cons (λ y. cond (eqb (key y) k) (v y) 0) x xs) (range_with_len a n) ∙ sumBy-add (only (key x) (v x)) f (range_with_len a n) in
+    omega (arith, e, one_hit (key x) (v x) a n, h.0, by-key-le key v c a n xs h.1)
 
-pub counted-le : (b : Bool) (v : ℤ) (c : ℕ) → natAbs v ≤ c → natAbs (cond b v (pos 0)) ≤ cond b c 0
+pub counted-le : (b : Bool) (v : ℤ) (c : ℕ) → nat_abs v ≤ c → nat_abs (cond b v (pos 0)) ≤ cond b c 0
 counted-le true v c h = h
 counted-le false v c h = omega arith
 
-pub owned-counted-le : (a b : Bool) (v : ℤ) (c : ℕ) → natAbs v ≤ c → natAbs (cond a (cond b v (pos 0)) (pos 0)) ≤ cond b c 0
+pub owned-counted-le : (a b : Bool) (v : ℤ) (c : ℕ) → nat_abs v ≤ c → nat_abs (cond a (cond b v (pos 0)) (pos 0)) ≤ cond b c 0
 owned-counted-le true b v c h = counted-le b v c h
 owned-counted-le false true v c h = omega arith
 owned-counted-le false false v c h = omega arith
 
-pub const-le : {X : Type 0} (p : X → Bool) (c : ℕ) (xs : List X) → sumBy (λ x. cond (p x) c 0) xs ≤ length xs * c
-const-le p c [] = omega arith
-const-le p c (x ∷ xs) = omega (arith, sumBy-cons (λ x. cond (p x) c 0) x xs, at-most (p x), const-le p c xs)
+pub const_le : {X : Type 0} (p : X → Bool) (c : ℕ) (xs : List X) → sum_by (λ x. cond (p x) c 0) xs ≤ length xs * c
+const_le p c [] = omega arith
+const_le p c (x ∷ xs) = omega (arith, sum_by-cons (λ x. cond (p x) c 0) x xs, at_most (p x), const_le p c xs)
   where
-    at-most : (b : Bool) → cond b c 0 ≤ c
-    at-most true = omega arith
-    at-most false = omega arith
+    at_most : (b : Bool) → cond b c 0 ≤ c
+    at_most true = omega arith
+    at_most false = omega arith
 
 cond-times : (b : Bool) (c : ℕ) → cond b c 0 ≡ cond b 1 0 * c
 cond-times true c = omega arith
 cond-times false c = sym (zero-mul c)
 
-pub times-by : {X : Type 0} (p : X → Bool) (c : ℕ) (xs : List X) → sumBy (λ x. cond (p x) c 0) xs ≡ sumBy (λ x. cond (p x) 1 0) xs * c
+pub times-by : {X : Type 0} (p : X → Bool) (c : ℕ) (xs : List X) → sum_by (λ x. cond (p x) c 0) xs ≡ sum_by (λ x. cond (p x) 1 0) xs * c
 times-by p c [] = sym (zero-mul c)
-times-by p c (x ∷ xs) = omega (arith, sumBy-cons (λ x. cond (p x) c 0) x xs, sumBy-cons (λ x. cond (p x) 1 0) x xs, times-by p c xs, cond-times (p x) c, add-mul (cond (p x) 1 0) (sumBy (λ x. cond (p x) 1 0) xs) c, ap (λ n. n * c) (sumBy-cons (λ x. cond (p x) 1 0) x xs))
+times-by p c (x ∷ xs) = omega (arith, sum_by-cons (λ x. cond (p x) c 0) x xs, sum_by-cons (λ x. cond (p x) 1 0) x xs, times-by p c xs, cond-times (p x) c, add-mul (cond (p x) 1 0) (sum_by (λ x. cond (p x) 1 0) xs) c, ap (λ n. n * c) (sum_by-cons (λ x. cond (p x) 1 0) x xs))

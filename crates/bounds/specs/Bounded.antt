@@ -1,15 +1,11 @@
 -- What a sound book bounds.
-use mathlib.Core.Bool.{true}
-use mathlib.Core.Path.{_≡_}
-use Prim.Native.Nat.{ℕ, _≤_}
-use lib.IntN.{natAbs}
-use Rattle·std.specs.shelf.Lists.{sum}
-use Rattle·dayfile.specs.Records.{Records}
-use Rattle·book.specs.Soundness.{sound-records}
-use Rattle·codes.specs.declared.code.Basis.the-variants.{Purchases}
-use Rattle·codes.specs.declared.code.Code.{Code}
-use Rattle·valuation.specs.Valid.{Sound}
-use Rattle·amounts.specs.Amounts.{Scope, shared, weights}
+use Rattle.std.specs.Prelude.{◌≡◌, ℕ, ◌≤◌, true, sum, unsigned_abs}
+use Rattle.dayfile.specs.Records.{Records}
+use Rattle.book.specs.Soundness.{sound-records}
+use Rattle.codes.specs.declared.code.Basis.TheVariants.{Purchases}
+use Rattle.codes.specs.declared.code.Code.{Code}
+use Rattle.valuation.specs.Valid.{Sound}
+use Rattle.amounts.specs.Amounts.{Scope, shared, weights}
 
 -- every field is in its range, no table is overfull, every account is listed, and no failure stands twice
 abbrev pub Sound-books-have-valid-records : Type 0
@@ -18,4 +14,4 @@ Sound-books-have-valid-records = (r : Records) → sound-records r ≡ true → 
 -- what is shared and what it is shared by keep within a sharing rule's limits
 abbrev pub Sound-books-can-be-shared : Type 0
 Sound-books-can-be-shared = (r : Records) → sound-records r ≡ true → (scope : Scope)
-    → (sum (weights Purchases r scope) ≤ 2000000000) × ((code : Code) → natAbs (shared r scope code) ≤ 44000000000000000)
+    → (sum (weights Purchases r scope) ≤ 2000000000) × ((code : Code) → unsigned_abs (shared r scope code) ≤ 44000000000000000)

@@ -1,7 +1,8 @@
 // The end of a day's records.
-ghost use mathlib.Core.Path.{_≡_};
-ghost use Rattle·book.specs.Books.{held};
-ghost use Rattle·closing·specs.Prices.{closing, ended};
+ghost use Rattle.std.specs.Prelude.{◌≡◌};
+ghost use Rattle.book.specs.Books.{held};
+ghost use Rattle.closing.specs.Prices.{closing, ended};
+
 use crate::prices::first_unpriced;
 use book::book::Book;
 use decoding::decode::decode_end;
@@ -10,7 +11,7 @@ use faults::refusal::Refusal;
 
 // Are there as many records as the end record counts, and has each the price that it needs?
 fn ends_with(book: &Book, count: u16) -> Result<(), Fault>
-    ensures { λ r. ⌜ r ≡ ended (held (now (book .entry))) count ⌝ }
+    ensures { result ≡ ended (held book.now) count }
 {
     if count as u128 != 1 + book.record_count() {
         return Err(Fault::plain(Refusal::WrongCount));
@@ -23,7 +24,7 @@ fn ends_with(book: &Book, count: u16) -> Result<(), Fault>
 
 // Takes the end record, unless there is a reason against it. A book is not changed by its end.
 pub fn close(book: &Book, bytes: &[u8]) -> Result<(), Fault>
-    ensures { λ r. ⌜ r ≡ closing (held (now (book .entry))) (now (bytes .entry)) ⌝ }
+    ensures { result ≡ closing (held book.now) bytes.now }
 {
     match decode_end(bytes) {
         Ok(count) => ends_with(book, count),

@@ -1,18 +1,12 @@
 -- The codes: number, letter, digit, kind of party and basis of every one.
-use mathlib.Core.Bool.{cond, _&&_}
-use mathlib.Core.List.{List, [], _∷_, map}
-use Prim.Native.Nat.{ℕ, _-_}
-use lib.Dec.{leb}
-use lib.ListN.{getD, length}
-use Rattle·std.specs.declared.option.Option.{Option}
-use Rattle·std.specs.declared.option.Option.the-variants.{Some, None}
-use Rattle·codes·specs.declared.code.Basis.{Basis}
-use Rattle·codes·specs.declared.code.Basis.the-variants.{Own, Purchases}
-use Rattle·codes·specs.declared.code.Code.{Code}
-use Rattle·codes·specs.declared.code.Code.the-variants.{A1, A2, A3, A4, B1, B2, B3, B4, F1, F2, F3, F4, F5, F6}
-use Rattle·codes·specs.declared.code.CodeRow.{CodeRow}
-use Rattle·codes·specs.declared.code.PartyKind.{PartyKind}
-use Rattle·codes·specs.declared.code.PartyKind.the-variants.{Account, ExternalSystem, WorkingCapitalFund, UniversalServiceFund}
+use Rattle.std.specs.Prelude.{ℕ, ◌-◌, cond, ◌&&◌, List, [], ◌∷◌, map, length, Some, None, Option, nat_le, slice_index_or}
+use Rattle.codes.specs.declared.code.Basis.{Basis}
+use Rattle.codes.specs.declared.code.Basis.TheVariants.{Own, Purchases}
+use Rattle.codes.specs.declared.code.Code.{Code}
+use Rattle.codes.specs.declared.code.Code.TheVariants.{A1, A2, A3, A4, B1, B2, B3, B4, F1, F2, F3, F4, F5, F6}
+use Rattle.codes.specs.declared.code.CodeRow.{CodeRow}
+use Rattle.codes.specs.declared.code.PartyKind.{PartyKind}
+use Rattle.codes.specs.declared.code.PartyKind.TheVariants.{Account, ExternalSystem, WorkingCapitalFund, UniversalServiceFund}
 
 abbrev pub code-number : Code → ℕ
 code-number A1 = 1
@@ -31,24 +25,24 @@ code-number F5 = 13
 code-number F6 = 14
 
 -- letters are bytes: 65 is A, 66 is B, 70 is F
-abbrev pub row-of : Code → CodeRow
-row-of A1 = record { code = A1; letter = 65; digit = 1; party = Account; basis = Own }
-row-of A2 = record { code = A2; letter = 65; digit = 2; party = Account; basis = Purchases }
-row-of A3 = record { code = A3; letter = 65; digit = 3; party = Account; basis = Own }
-row-of A4 = record { code = A4; letter = 65; digit = 4; party = Account; basis = Purchases }
-row-of B1 = record { code = B1; letter = 66; digit = 1; party = Account; basis = Own }
-row-of B2 = record { code = B2; letter = 66; digit = 2; party = Account; basis = Purchases }
-row-of B3 = record { code = B3; letter = 66; digit = 3; party = Account; basis = Own }
-row-of B4 = record { code = B4; letter = 66; digit = 4; party = Account; basis = Purchases }
-row-of F1 = record { code = F1; letter = 70; digit = 1; party = Account; basis = Purchases }
-row-of F2 = record { code = F2; letter = 70; digit = 2; party = ExternalSystem; basis = Own }
-row-of F3 = record { code = F3; letter = 70; digit = 3; party = Account; basis = Own }
-row-of F4 = record { code = F4; letter = 70; digit = 4; party = WorkingCapitalFund; basis = Own }
-row-of F5 = record { code = F5; letter = 70; digit = 5; party = Account; basis = Own }
-row-of F6 = record { code = F6; letter = 70; digit = 6; party = UniversalServiceFund; basis = Own }
+abbrev pub row_of : Code → CodeRow
+row_of A1 = record { code = A1; letter = 65; digit = 1; party = Account; basis = Own }
+row_of A2 = record { code = A2; letter = 65; digit = 2; party = Account; basis = Purchases }
+row_of A3 = record { code = A3; letter = 65; digit = 3; party = Account; basis = Own }
+row_of A4 = record { code = A4; letter = 65; digit = 4; party = Account; basis = Purchases }
+row_of B1 = record { code = B1; letter = 66; digit = 1; party = Account; basis = Own }
+row_of B2 = record { code = B2; letter = 66; digit = 2; party = Account; basis = Purchases }
+row_of B3 = record { code = B3; letter = 66; digit = 3; party = Account; basis = Own }
+row_of B4 = record { code = B4; letter = 66; digit = 4; party = Account; basis = Purchases }
+row_of F1 = record { code = F1; letter = 70; digit = 1; party = Account; basis = Purchases }
+row_of F2 = record { code = F2; letter = 70; digit = 2; party = ExternalSystem; basis = Own }
+row_of F3 = record { code = F3; letter = 70; digit = 3; party = Account; basis = Own }
+row_of F4 = record { code = F4; letter = 70; digit = 4; party = WorkingCapitalFund; basis = Own }
+row_of F5 = record { code = F5; letter = 70; digit = 5; party = Account; basis = Own }
+row_of F6 = record { code = F6; letter = 70; digit = 6; party = UniversalServiceFund; basis = Own }
 
 abbrev pub basis-of : Code → Basis
-basis-of code = row-of code .basis
+basis-of code = (row_of code).basis
 
 abbrev pub kind-number : PartyKind → ℕ
 kind-number Account = 1
@@ -62,19 +56,19 @@ basis-number Own = 0
 basis-number Purchases = 1
 
 -- every code, in order
-abbrev pub all-codes : List Code
-all-codes = A1 ∷ A2 ∷ A3 ∷ A4 ∷ B1 ∷ B2 ∷ B3 ∷ B4 ∷ F1 ∷ F2 ∷ F3 ∷ F4 ∷ F5 ∷ F6 ∷ []
+abbrev pub all_codes : List Code
+all_codes = A1 ∷ A2 ∷ A3 ∷ A4 ∷ B1 ∷ B2 ∷ B3 ∷ B4 ∷ F1 ∷ F2 ∷ F3 ∷ F4 ∷ F5 ∷ F6 ∷ []
 
 abbrev pub code-count : ℕ
-code-count = length all-codes
+code-count = length all_codes
 
 -- the place in that order, from 0
 abbrev pub code-index : Code → ℕ
 code-index code = code-number code - 1
 
-abbrev pub code-at : ℕ → Code
-code-at i = getD all-codes i A1
+abbrev pub code_at : ℕ → Code
+code_at i = slice_index_or all_codes i A1
 
 -- the code with a number
-abbrev pub code-of : ℕ → Option Code
-code-of number = cond (leb 1 number && leb number code-count) (Some (code-at (number - 1))) None
+abbrev pub code_of : ℕ → Option Code
+code_of number = cond (nat_le 1 number && nat_le number code-count) (Some (code_at (number - 1))) None

@@ -1,7 +1,6 @@
 // The codes under which amounts are settled.
-ghost use mathlib.Core.Path.{_≡_};
-ghost use Prim.Native.Nat.{_<_};
-ghost use Rattle·codes·specs.Codes.{basis-number, code-at, code-count, code-index, code-number, code-of, kind-number, row-of};
+ghost use Rattle.std.specs.Prelude.{◌≡◌, ◌<◌};
+ghost use Rattle.codes.specs.Codes.{basis-number, code_at, code-count, code-index, code-number, code_of, kind-number, row_of};
 
 // A letter and a digit: A is the day-ahead settlement, B the real-time settlement, F everything else.
 #[derive(Clone, Copy)]
@@ -154,8 +153,8 @@ pub const CODES: [CodeRow; CODE_COUNT] = [
 
 // The code at a place of the table of codes.
 pub(crate) fn code_in(index: usize) -> Code
-    requires { ⌜ index < code-count ⌝ }
-    ensures { λ r. ⌜ r ≡ code-at index ⌝ }
+    requires { index < code-count }
+    ensures { result ≡ code_at index }
 {
     CODES[index].code
 }
@@ -163,22 +162,22 @@ pub(crate) fn code_in(index: usize) -> Code
 impl Code {
     // The place in the table of codes.
     pub fn index(self) -> usize
-        ensures value { λ r. ⌜ r ≡ code-index self ⌝ }
-        ensures below { λ r. ⌜ r < code-count ⌝ }
+        ensures value { result ≡ code-index self }
+        ensures below { result < code-count }
     {
         self as usize
     }
 
     // Codes are numbered in their order, from 1.
     pub fn number(self) -> u8
-        ensures { λ r. ⌜ r ≡ code-number self ⌝ }
+        ensures { result ≡ code-number self }
     {
         self as u8 + 1
     }
 
     // The code with this number, if there is one.
     pub fn from_number(number: u8) -> Option<Code>
-        ensures { λ r. ⌜ r ≡ code-of number ⌝ }
+        ensures { result ≡ code_of number }
     {
         if number >= 1 && number as usize <= CODE_COUNT {
             Some(code_in(number as usize - 1))
@@ -189,7 +188,7 @@ impl Code {
 
     // Letter, digit, kind of party and basis.
     pub fn row(self) -> CodeRow
-        ensures { λ r. ⌜ r ≡ row-of self ⌝ }
+        ensures { result ≡ row_of self }
     {
         CODES[self.index()]
     }
@@ -197,7 +196,7 @@ impl Code {
 
 impl PartyKind {
     pub fn number(self) -> u8
-        ensures { λ r. ⌜ r ≡ kind-number self ⌝ }
+        ensures { result ≡ kind-number self }
     {
         match self {
             PartyKind::Account => 1,
@@ -210,7 +209,7 @@ impl PartyKind {
 
 impl Basis {
     pub fn number(self) -> u8
-        ensures { λ r. ⌜ r ≡ basis-number self ⌝ }
+        ensures { result ≡ basis-number self }
     {
         match self {
             Basis::Own => 0,

@@ -1,9 +1,6 @@
 // The parties that amounts are settled with, by number.
-ghost use mathlib.Core.Path.{_≡_};
-ghost use Prim.Native.Nat.{_<_};
-ghost use lib.ListN.{getD};
-ghost use Rattle·std.specs.Slices.{found};
-ghost use Rattle·codes·specs.Parties.{party-at, party-count, party-numbers, party-place, place-by-kind};
+ghost use Rattle.std.specs.Prelude.{◌≡◌, ◌<◌, IfSome, slice_index};
+ghost use Rattle.codes.specs.Parties.{party-at, party-count, party-numbers, party-place, place-by-kind};
 
 // Accounts are the parties 1 to 32.
 pub const ACCOUNTS: usize = 32;
@@ -26,57 +23,21 @@ pub const PARTY_COUNT: usize = ACCOUNTS + SYSTEMS + FUNDS;
 
 // Every party, in the order of the numbers.
 pub const PARTIES: [u8; PARTY_COUNT] = [
-    1,
-    2,
-    3,
-    4,
-    5,
-    6,
-    7,
-    8,
-    9,
-    10,
-    11,
-    12,
-    13,
-    14,
-    15,
-    16,
-    17,
-    18,
-    19,
-    20,
-    21,
-    22,
-    23,
-    24,
-    25,
-    26,
-    27,
-    28,
-    29,
-    30,
-    31,
-    32,
-    41,
-    42,
-    43,
-    44,
-    51,
-    52,
+    1, 2, 3, 4, 5, 6, 7, 8, 9, 10, 11, 12, 13, 14, 15, 16, 17, 18, 19, 20, 21, 22, 23, 24, 25, 26,
+    27, 28, 29, 30, 31, 32, 41, 42, 43, 44, 51, 52,
 ];
 
 // The number of the party at a place of that order, of which there are so many.
 pub(crate) fn party_in(place: usize) -> u8
-    requires { ⌜ place < party-count ⌝ }
-    ensures { λ r. ⌜ r ≡ getD party-numbers place 0 ⌝ }
+    requires { place < party-count }
+    ensures { result ≡ slice_index party-numbers place }
 {
     PARTIES[place]
 }
 
 // The number of the party at a place of that order, if there is one.
 pub fn party_at(place: usize) -> Option<u8>
-    ensures { λ r. ⌜ r ≡ party-at place ⌝ }
+    ensures { result ≡ party-at place }
 {
     if place < PARTY_COUNT {
         Some(party_in(place))
@@ -87,7 +48,7 @@ pub fn party_at(place: usize) -> Option<u8>
 
 // The place, reckoned from how many parties of each kind there are.
 fn place_by_kind(party: u8) -> Option<usize>
-    ensures { λ r. ⌜ r ≡ place-by-kind party ⌝ }
+    ensures { result ≡ place-by-kind party }
 {
     if party >= 1 && party <= LAST_ACCOUNT {
         Some(party as usize - 1)
@@ -104,8 +65,8 @@ fn place_by_kind(party: u8) -> Option<usize>
 
 // The place of the party with this number, if there is one.
 pub fn party_place(party: u8) -> Option<usize>
-    ensures value { λ r. ⌜ r ≡ party-place party ⌝ }
-    ensures within { λ r. ⌜ found r (λ i. i < party-count) ⌝ }
+    ensures value { result ≡ party-place party }
+    ensures within { IfSome result (λ i. i < party-count) }
 {
     place_by_kind(party)
 }

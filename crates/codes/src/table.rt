@@ -1,13 +1,10 @@
 // The table of amounts, by code and party.
-ghost use mathlib.Core.Path.{_≡_};
-ghost use Rattle·codes·specs.Cells.{Put, cell, cell-at, empty-cells};
-ghost use Rattle·codes·specs.Laws.{Numbers-tell-codes, Places-tell-cells, Places-tell-parties};
-use crate::code::CODE_COUNT;
-use crate::code::Code;
-use crate::code::code_in;
-use crate::party::PARTY_COUNT;
-use crate::party::party_in;
-use crate::party::party_place;
+ghost use Rattle.std.specs.Prelude.{◌≡◌};
+ghost use Rattle.codes.specs.Cells.{Put, cell, cell_at, empty-cells};
+ghost use Rattle.codes.specs.Laws.{Numbers-tell-codes, Places-tell-cells, Places-tell-parties};
+
+use crate::code::{CODE_COUNT, Code, code_in};
+use crate::party::{PARTY_COUNT, party_in, party_place};
 
 pub const CELLS: usize = CODE_COUNT * PARTY_COUNT;
 
@@ -29,14 +26,14 @@ pub struct TableCell {
 impl Table {
     // A table of zeros.
     pub fn new() -> Table
-        ensures { λ r. ⌜ r .cells ≡ empty-cells ⌝ }
+        ensures { result.cells ≡ empty-cells }
     {
         Table { cells: [0; CELLS] }
     }
 
     // The amount of the code and the party; 0 where there is no such party.
     pub fn amount(&self, code: Code, party: u8) -> i64
-        ensures { λ r. ⌜ r ≡ cell (now (self .entry)) code party ⌝ }
+        ensures { result ≡ cell self.now code party }
     {
         match party_place(party) {
             Some(place) => self.cells[code.index() * PARTY_COUNT + place],
@@ -46,7 +43,7 @@ impl Table {
 
     // Puts the amount into the cell of the code and the party; nothing where there is no such party.
     pub fn put(&mut self, code: Code, party: u8, amount: i64)
-        ensures { λ _. ⌜ Put (now (self .entry)) (now (self .exit)) code party amount ⌝ }
+        ensures { Put self.old self.new code party amount }
     {
         if let Some(place) = party_place(party) {
             self.cells[code.index() * PARTY_COUNT + place] = amount;
@@ -55,7 +52,7 @@ impl Table {
 
     // Code, party and amount of the cell at a place, if there are so many.
     pub fn cell(&self, place: usize) -> Option<TableCell>
-        ensures { λ r. ⌜ r ≡ cell-at (now (self .entry)) place ⌝ }
+        ensures { result ≡ cell_at self.now place }
     {
         if place < CELLS {
             Some(TableCell {
@@ -70,7 +67,7 @@ impl Table {
 
     // 0 in every cell.
     pub fn clear(&mut self)
-        ensures { λ _. ⌜ now (self .exit) .cells ≡ empty-cells ⌝ }
+        ensures { self.new.cells ≡ empty-cells }
     {
         self.cells = [0; CELLS];
     }
@@ -78,9 +75,9 @@ impl Table {
 
 // Codes, parties and cells are told by their numbers and places.
 pub fn places_stand() -> u8
-    ensures codes { λ _. ⌜ Numbers-tell-codes ⌝ }
-    ensures parties { λ _. ⌜ Places-tell-parties ⌝ }
-    ensures cells { λ _. ⌜ Places-tell-cells ⌝ }
+    ensures codes { Numbers-tell-codes }
+    ensures parties { Places-tell-parties }
+    ensures cells { Places-tell-cells }
 {
     0
 }

@@ -1,23 +1,18 @@
 // Finding a position, and putting another reading in the place of the one it has.
-ghost use mathlib.Core.Path.{_≡_};
-ghost use Prim.Native.Nat.{_<_};
-ghost use lib.ListN.{length};
-ghost use Rattle·std.specs.Options.{isSome};
-ghost use Rattle·std.specs.Slices.{found};
-ghost use Rattle·rows.specs.Tables.{first-place};
-ghost use Rattle·book.specs.Books.{answer, held};
-ghost use Rattle·correcting·specs.Corrections.{Correcting-keeps-sound};
-ghost use Rattle·correcting·specs.Readings.{corrected, correction, correction-refusal, is-position-of, read-position, reading-in-range, reading-listed, reading-place, reading-refusal, reread-at, with-reading};
+ghost use Rattle.std.specs.Prelude.{◌≡◌, ◌<◌, length, is_some, IfSome};
+ghost use Rattle.rows.specs.Tables.{first-place};
+ghost use Rattle.book.specs.Books.{answer, held};
+ghost use Rattle.correcting.specs.Corrections.{Correcting-keeps-sound};
+ghost use Rattle.correcting.specs.Readings.{corrected, correction, correction-refusal, is-position-of, read-position, reading-in-range, reading-listed, reading-place, reading-refusal, reread-at, with-reading};
+
 use crate::reading::Reading;
 use book::book::Book;
 use dayfile::heading::Heading;
-use dayfile::record::Class;
-use dayfile::record::Position;
-use faults::fault::Fault;
-use faults::fault::Place;
+use dayfile::record::{Class, Position};
+use faults::fault::{Fault, Place};
 use faults::refusal::Refusal;
-use rows::kinds::PositionRow;
 use rows::kinds::is_energy;
+use rows::row::Row;
 use rows::table::find;
 
 // Where the account's position of the class at the node in the hour stands.
@@ -28,8 +23,8 @@ pub fn find_position(
     hour: u8,
     class: Class,
 ) -> Option<usize>
-    ensures value { λ r. ⌜ r ≡ first-place (is-position-of account node hour class) (now (positions .entry)) ⌝ }
-    ensures within { λ r. ⌜ found r (λ i. i < length (now (positions .entry))) ⌝ }
+    ensures value { result ≡ first-place (is-position-of account node hour class) positions.now }
+    ensures within { IfSome result (λ i. i < length positions.now) }
 {
     let key = Position {
         account,
@@ -44,8 +39,8 @@ pub fn find_position(
 
 // Where the position stands that the reading is of; none where no class has the reading's number.
 fn find_read(positions: &[Position], reading: Reading) -> Option<usize>
-    ensures value { λ r. ⌜ r ≡ read-position (now (positions .entry)) reading ⌝ }
-    ensures within { λ r. ⌜ found r (λ i. i < length (now (positions .entry))) ⌝ }
+    ensures value { result ≡ read-position positions.now reading }
+    ensures within { IfSome result (λ i. i < length positions.now) }
 {
     match Class::from_number(reading.class) {
         Some(class) => find_position(
@@ -61,8 +56,8 @@ fn find_read(positions: &[Position], reading: Reading) -> Option<usize>
 
 // Puts the reading into its position, if there is one, and says whether there was. Every other position stays as it is.
 pub fn replace_reading(positions: &mut [Position], reading: Reading) -> bool
-    ensures value { λ r. ⌜ r ≡ isSome (read-position (now (positions .entry)) reading) ⌝ }
-    ensures after { λ _. ⌜ now (positions .exit) ≡ reread-at (now (positions .entry)) (read-position (now (positions .entry)) reading) (reading .«real_time») ⌝ }
+    ensures value { result ≡ is_some (read-position positions.old reading) }
+    ensures after { positions.new ≡ reread-at positions.old (read-position positions.old reading) reading.real_time }
 {
     match find_read(positions, reading) {
         Some(i) => {
@@ -75,13 +70,13 @@ pub fn replace_reading(positions: &mut [Position], reading: Reading) -> bool
 
 impl Reading {
     fn place(self) -> Place
-        ensures { λ r. ⌜ r ≡ reading-place self ⌝ }
+        ensures { result ≡ reading-place self }
     {
         Place::new(self.account, self.node, self.hour)
     }
 
     fn is_in_range(self) -> bool
-        ensures { λ r. ⌜ r ≡ reading-in-range self ⌝ }
+        ensures { result ≡ reading-in-range self }
     {
         self.account >= 1
             && self.node >= 1
@@ -91,14 +86,14 @@ impl Reading {
     }
 
     fn is_listed(self, heading: &Heading) -> bool
-        ensures { λ r. ⌜ r ≡ reading-listed (now (heading .entry)) self ⌝ }
+        ensures { result ≡ reading-listed heading.now self }
     {
         self.account <= heading.accounts && self.node <= heading.nodes && self.hour <= heading.hours
     }
 
     // What the heading alone has against the reading.
     pub fn refusal_under(self, heading: &Heading) -> Option<Refusal>
-        ensures { λ r. ⌜ r ≡ reading-refusal (now (heading .entry)) self ⌝ }
+        ensures { result ≡ reading-refusal heading.now self }
     {
         if !self.is_in_range() {
             return Some(Refusal::OutOfRange);
@@ -112,7 +107,7 @@ impl Reading {
 
 // Why the reading cannot be put in the place of the one held, if so.
 pub fn reading_refusal(book: &Book, reading: Reading) -> Option<Refusal>
-    ensures { λ r. ⌜ r ≡ correction-refusal (held (now (book .entry))) reading ⌝ }
+    ensures { result ≡ correction-refusal (held book.now) reading }
 {
     if let Some(refusal) = reading.refusal_under(&book.heading) {
         return Some(refusal);
@@ -126,15 +121,15 @@ pub fn reading_refusal(book: &Book, reading: Reading) -> Option<Refusal>
 
 // Puts the reading into its position, if there is one.
 fn put_reading(book: &mut Book, reading: Reading)
-    ensures { λ _. ⌜ held (now (book .exit)) ≡ with-reading (held (now (book .entry))) reading ⌝ }
+    ensures { held book.new ≡ with-reading (held book.old) reading }
 {
     let _ = replace_reading(book.positions.as_mut_slice(), reading);
 }
 
 // Puts the reading in the place of the one held, unless there is a reason against it.
 pub fn correct(book: &mut Book, reading: Reading) -> Result<(), Fault>
-    ensures value { λ r. ⌜ r ≡ answer (correction (held (now (book .entry))) reading) ⌝ }
-    ensures after { λ _. ⌜ held (now (book .exit)) ≡ corrected (held (now (book .entry))) (correction (held (now (book .entry))) reading) ⌝ }
+    ensures value { result ≡ answer (correction (held book.old) reading) }
+    ensures after { held book.new ≡ corrected (held book.old) (correction (held book.old) reading) }
 {
     if let Some(refusal) = reading_refusal(book, reading) {
         return Err(Fault::new(refusal, reading.place()));
@@ -145,7 +140,7 @@ pub fn correct(book: &mut Book, reading: Reading) -> Result<(), Fault>
 
 // What a correction keeps.
 pub fn corrections_stand() -> u8
-    ensures corrected { λ _. ⌜ Correcting-keeps-sound ⌝ }
+    ensures corrected { Correcting-keeps-sound }
 {
     0
 }

@@ -1,10 +1,7 @@
 // Hands out the records of a file one by one.
-ghost use mathlib.Core.Path.{_≡_};
-ghost use Prim.Native.Nat.{_+_, _<_, _≤_};
-ghost use lib.Dec.{eqb};
-ghost use lib.ListN.{length};
-ghost use Rattle·std.specs.Vec.{made};
-ghost use Rattle·cutting·specs.Cuts.{cut-at, first-record, lent, past};
+ghost use Rattle.std.specs.Prelude.{◌≡◌, ◌+◌, ◌<◌, ◌≤◌, length, IfOk, OnOk, ◌==◌};
+ghost use Rattle.cutting.specs.Cuts.{cut_at, first-record, lent, past};
+
 use dayfile::mark::Mark;
 use faults::fault::Fault;
 use faults::refusal::Refusal;
@@ -14,13 +11,13 @@ use faults::refusal::Refusal;
 pub struct Reader<'a> {
     file: &'a [u8],
     offset: usize,
-    ghost inside: { offset ≤ length (file .now) },
+    ghost inside: { offset ≤ length file.now },
 }
 
 // The record that the bytes begin with.
 fn first_record(bytes: &[u8]) -> Result<&[u8], Refusal>
-    ensures value { λ r. ⌜ lent r ≡ first-record (now (bytes .entry)) ⌝ }
-    ensures within { λ r. ⌜ made r (λ part. (4 ≤ length (now part)) × (length (now part) ≤ length (now (bytes .entry)))) ⌝ }
+    ensures value { lent result ≡ first-record bytes.now }
+    ensures within { IfOk result (λ part. (4 ≤ length part.now) × (length part.now ≤ length bytes.now)) }
 {
     let [first, second, ..] = bytes else {
         return Err(Refusal::UnknownMark);
@@ -37,9 +34,9 @@ fn first_record(bytes: &[u8]) -> Result<&[u8], Refusal>
 
 // The record that begins at the offset.
 fn record_at(file: &[u8], offset: usize) -> Result<&[u8], Fault>
-    requires { ⌜ offset ≤ length (now file) ⌝ }
-    ensures value { λ r. ⌜ lent r ≡ cut-at (now (file .entry)) offset ⌝ }
-    ensures within { λ r. ⌜ made r (λ part. (4 ≤ length (now part)) × (offset + length (now part) ≤ length (now (file .entry)))) ⌝ }
+    requires { offset ≤ length file.now }
+    ensures value { lent result ≡ cut_at file.now offset }
+    ensures within { IfOk result (λ part. (4 ≤ length part.now) × (offset + length part.now ≤ length file.now)) }
 {
     match first_record(&file[offset..]) {
         Ok(part) => Ok(part),
@@ -50,14 +47,14 @@ fn record_at(file: &[u8], offset: usize) -> Result<&[u8], Fault>
 impl<'a> Reader<'a> {
     // At the file's first byte.
     pub fn new(file: &'a [u8]) -> Reader<'a>
-        ensures file { λ r. ⌜ now (r .file) ≡ now (file .entry) ⌝ }
-        ensures start { λ r. ⌜ r .offset ≡ 0 ⌝ }
+        ensures file { result.file.now ≡ file.now }
+        ensures start { result.offset ≡ 0 }
     {
         Reader { file, offset: 0 }
     }
 
     pub fn offset(&self) -> usize
-        ensures { λ r. ⌜ r ≡ now (self .entry) .offset ⌝ }
+        ensures { result ≡ self.now.offset }
     {
         let Reader { offset, .. } = self;
         *offset
@@ -65,17 +62,17 @@ impl<'a> Reader<'a> {
 
     // Was the whole file handed out?
     pub fn at_end(&self) -> bool
-        ensures { λ r. ⌜ r ≡ eqb (now (self .entry) .offset) (length (now (now (self .entry) .file))) ⌝ }
+        ensures { result ≡ (self.now.offset == length self.now.file.now) }
     {
         self.offset == self.file.len()
     }
 
     // The next record's bytes; the offset moves past them. A refusal moves nothing.
     pub fn next(&mut self) -> Result<&'a [u8], Fault>
-        ensures file { λ _. ⌜ now (now (self .exit) .file) ≡ now (now (self .entry) .file) ⌝ }
-        ensures part { λ r. ⌜ lent r ≡ cut-at (now (now (self .entry) .file)) (now (self .entry) .offset) ⌝ }
-        ensures offset { λ _. ⌜ now (self .exit) .offset ≡ past (now (self .entry) .offset) (cut-at (now (now (self .entry) .file)) (now (self .entry) .offset)) ⌝ }
-        ensures moves { λ r. ⌜ made r (λ _. now (self .entry) .offset < now (self .exit) .offset) ⌝ }
+        ensures file { self.new.file.now ≡ self.old.file.now }
+        ensures part { lent result ≡ cut_at self.old.file.now self.old.offset }
+        ensures offset { self.new.offset ≡ past self.old.offset (cut_at self.old.file.now self.old.offset) }
+        ensures moves { OnOk result (self.old.offset < self.new.offset) }
     {
         match record_at(self.file, self.offset) {
             Ok(part) => {

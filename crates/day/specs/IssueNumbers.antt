@@ -1,9 +1,7 @@
 -- The issues of a day.
-use Prim.Native.Nat.{ℕ}
-use Rattle·std.specs.declared.option.Option.{Option}
-use Rattle·std.specs.declared.option.Option.the-variants.{None, Some}
-use Rattle·day·specs.declared.issue_number.IssueNumber.{IssueNumber}
-use Rattle·day·specs.declared.issue_number.IssueNumber.the-variants.{FinalResettlement, Initial, InitialResettlement, IntermediateResettlement}
+use Rattle.std.specs.Prelude.{ℕ, Some, None, Option}
+use Rattle.day.specs.declared.issue_number.IssueNumber.{IssueNumber}
+use Rattle.day.specs.declared.issue_number.IssueNumber.TheVariants.{FinalResettlement, Initial, InitialResettlement, IntermediateResettlement}
 
 abbrev pub issue-number : IssueNumber → ℕ
 issue-number Initial = 0

@@ -1,14 +1,12 @@
 -- A day's memory, and when it is the day's.
-use mathlib.Core.Bool.{Bool, _&&_}
-use mathlib.Core.List.{List}
-use Prim.Native.Nat.{ℕ}
-use Rattle·book.specs.Soundness.{records-of-day}
-use Rattle·codes.specs.Cells.{empty-cells}
-use Rattle·codes.specs.declared.table.Table.{Table}
-use Rattle·dayfile.specs.Records.{Records}
-use Rattle·ledger.specs.Notes.{cleared, sound-notes, within-limit}
-use Rattle·ledger.specs.declared.note.Note.{Note}
-use Rattle·day·specs.declared.state.Numbers.{Numbers}
+use Rattle.std.specs.Prelude.{ℕ, Bool, ◌&&◌, List}
+use Rattle.book.specs.Soundness.{records-of-day}
+use Rattle.codes.specs.Cells.{empty-cells}
+use Rattle.codes.specs.declared.table.Table.{Table}
+use Rattle.dayfile.specs.Records.{Records}
+use Rattle.ledger.specs.Notes.{cleared, sound-notes, within-limit}
+use Rattle.ledger.specs.declared.note.Note.{Note}
+use Rattle.day.specs.declared.state.Numbers.{Numbers}
 
 -- what the book holds, the day table and the ledger
 pub record Memory : Type 0 where
@@ -31,5 +29,5 @@ begun-with records ledger = memory records empty-table (cleared ledger)
 -- notes are sound ones of so many issues
 abbrev pub sound-memory : Numbers → ℕ → Memory → Bool
 sound-memory numbers issues m =
-    records-of-day (numbers .heading) (numbers .counts) (m .records)
-    && (within-limit (m .table) && sound-notes (m .ledger) (numbers .notes) issues)
+    records-of-day numbers.heading numbers.counts m.records
+    && (within-limit m.table && sound-notes m.ledger numbers.notes issues)

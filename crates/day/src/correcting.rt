@@ -1,24 +1,25 @@
 // The call that corrects a reading.
-ghost use mathlib.Core.Path.{_≡_};
-ghost use Rattle·book.specs.Books.{held};
-ghost use Rattle·correcting.specs.Readings.{corrected, correction};
-ghost use Rattle·day·specs.Calls.{correct-gives};
-ghost use Rattle·day·specs.Memory.{memory};
+ghost use Rattle.std.specs.Prelude.{◌≡◌};
+ghost use Rattle.book.specs.Books.{held};
+ghost use Rattle.correcting.specs.Readings.{corrected, correction};
+ghost use Rattle.day.specs.Calls.{correct-gives};
+ghost use Rattle.day.specs.Memory.{memory};
+
 use crate::memory::is_sound;
 use crate::refused::Refused;
 use crate::state::Closed;
 use book::book::Book;
-use correcting::reading::Reading;
 use codes::table::Table;
 use correcting::correct::correct as correct_book;
+use correcting::reading::Reading;
 use faults::fault::Fault;
 use faults::refusal::Refusal;
 use ledger::note::Note;
 
 // Puts the reading into its position, unless there is a reason against it.
 fn reread(book: &mut Book, reading: Reading) -> Result<Reading, Fault>
-    ensures value { λ r. ⌜ r ≡ correction (held (now (book .entry))) reading ⌝ }
-    ensures after { λ _. ⌜ held (now (book .exit)) ≡ corrected (held (now (book .entry))) (correction (held (now (book .entry))) reading) ⌝ }
+    ensures value { result ≡ correction (held book.old) reading }
+    ensures after { held book.new ≡ corrected (held book.old) (correction (held book.old) reading) }
 {
     match correct_book(book, reading) {
         Ok(()) => Ok(reading),
@@ -34,7 +35,7 @@ pub fn correct(
     table: &Table,
     ledger: &[Note],
 ) -> Result<Closed, Refused<Closed>>
-    ensures { λ r. ⌜ (r, memory (held (now (book .exit))) (now (table .entry)) (now (ledger .entry))) ≡ correct-gives day (memory (held (now (book .entry))) (now (table .entry)) (now (ledger .entry))) reading ⌝ }
+    ensures { (result, memory (held book.new) table.now ledger.now) ≡ correct-gives day (memory (held book.old) table.now ledger.now) reading }
 {
     let Closed { numbers } = day;
     if !is_sound(&numbers, numbers.issue.number(), book, table, ledger) {

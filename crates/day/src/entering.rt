@@ -1,25 +1,24 @@
 // The calls that bring in a day's records, and end them.
-ghost use mathlib.Core.Path.{_≡_};
-ghost use Rattle·book.specs.Books.{admitted, entered, held};
-ghost use Rattle·day·specs.Calls.{close-gives, enter-gives, with-counts};
-ghost use Rattle·day·specs.Memory.{memory};
+ghost use Rattle.std.specs.Prelude.{◌≡◌};
+ghost use Rattle.book.specs.Books.{admitted, entered, held};
+ghost use Rattle.day.specs.Calls.{close-gives, enter-gives, with-counts};
+ghost use Rattle.day.specs.Memory.{memory};
+
 use crate::memory::is_sound;
 use crate::refused::Refused;
-use crate::state::Closed;
-use crate::state::Numbers;
-use crate::state::Open;
+use crate::state::{Closed, Numbers, Open};
 use book::book::Book;
 use closing::close::close as close_book;
 use codes::table::Table;
-use decoding::decode::decode_record;
 use dayfile::record::Record;
+use decoding::decode::decode_record;
 use faults::fault::Fault;
 use faults::refusal::Refusal;
 use ledger::note::Note;
 
 // The same numbers, with the counts of the book's records.
 fn with_counts(numbers: Numbers, book: &Book) -> Numbers
-    ensures { λ r. ⌜ r ≡ with-counts numbers (held (now (book .entry))) ⌝ }
+    ensures { result ≡ with-counts numbers (held book.now) }
 {
     Numbers {
         heading: numbers.heading,
@@ -31,8 +30,8 @@ fn with_counts(numbers: Numbers, book: &Book) -> Numbers
 
 // Takes the record that the bytes say into the book, unless there is a reason against it.
 fn admit(book: &mut Book, bytes: &[u8]) -> Result<Record, Fault>
-    ensures value { λ r. ⌜ r ≡ admitted (held (now (book .entry))) (now (bytes .entry)) ⌝ }
-    ensures after { λ _. ⌜ held (now (book .exit)) ≡ entered (held (now (book .entry))) (admitted (held (now (book .entry))) (now (bytes .entry))) ⌝ }
+    ensures value { result ≡ admitted (held book.old) bytes.now }
+    ensures after { held book.new ≡ entered (held book.old) (admitted (held book.old) bytes.now) }
 {
     let item = decode_record(bytes)?;
     book.enter_record(item)?;
@@ -47,7 +46,7 @@ pub fn enter(
     table: &Table,
     ledger: &[Note],
 ) -> Result<Open, Refused<Open>>
-    ensures { λ r. ⌜ (r, memory (held (now (book .exit))) (now (table .entry)) (now (ledger .entry))) ≡ enter-gives day (memory (held (now (book .entry))) (now (table .entry)) (now (ledger .entry))) (now (bytes .entry)) ⌝ }
+    ensures { (result, memory (held book.new) table.now ledger.now) ≡ enter-gives day (memory (held book.old) table.now ledger.now) bytes.now }
 {
     let Open { numbers } = day;
     if !is_sound(&numbers, numbers.issue.number(), book, table, ledger) {
@@ -76,7 +75,7 @@ pub fn close(
     table: &Table,
     ledger: &[Note],
 ) -> Result<Closed, Refused<Open>>
-    ensures { λ r. ⌜ (r, memory (held (now (book .entry))) (now (table .entry)) (now (ledger .entry))) ≡ close-gives day (memory (held (now (book .entry))) (now (table .entry)) (now (ledger .entry))) (now (bytes .entry)) ⌝ }
+    ensures { (result, memory (held book.now) table.now ledger.now) ≡ close-gives day (memory (held book.now) table.now ledger.now) bytes.now }
 {
     let Open { numbers } = day;
     if !is_sound(&numbers, numbers.issue.number(), book, table, ledger) {

@@ -1,7 +1,6 @@
 // The four issues that a day may have, as Base 17.2.6 names their statements.
-ghost use mathlib.Core.Path.{_≡_};
-ghost use Prim.Native.Nat.{_≤_};
-ghost use Rattle·day·specs.IssueNumbers.{following, issue-number};
+ghost use Rattle.std.specs.Prelude.{◌≡◌, ◌≤◌};
+ghost use Rattle.day.specs.IssueNumbers.{following, issue-number};
 
 #[derive(Clone, Copy)]
 pub enum IssueNumber {
@@ -14,8 +13,8 @@ pub enum IssueNumber {
 impl IssueNumber {
     // 0 to 3.
     pub fn number(self) -> u8
-        ensures value { λ r. ⌜ r ≡ issue-number self ⌝ }
-        ensures bound { λ r. ⌜ r ≤ 3 ⌝ }
+        ensures value { result ≡ issue-number self }
+        ensures bound { result ≤ 3 }
     {
         match self {
             IssueNumber::Initial => 0,
@@ -27,7 +26,7 @@ impl IssueNumber {
 
     // The issue that comes after this one, if there is one.
     pub fn following(self) -> Option<IssueNumber>
-        ensures { λ r. ⌜ r ≡ following self ⌝ }
+        ensures { result ≡ following self }
     {
         match self {
             IssueNumber::Initial => Some(IssueNumber::InitialResettlement),

@@ -1,22 +1,16 @@
 // The calls that add the notes of a settled day to the ledger, and state them.
-ghost use mathlib.Core.Bool.{true};
-ghost use mathlib.Core.Path.{_≡_};
-ghost use Prim.Native.Nat.{_+_, _<_, _≤_, _^_};
-ghost use lib.ListN.{length, take};
-ghost use Rattle·std.specs.Results.{Cases};
-ghost use Rattle·std.specs.Vec.{made};
-ghost use Rattle·book.specs.Books.{held};
-ghost use Rattle·ledger.specs.Issues.{issue-answer, issue-leaves, new-notes};
-ghost use Rattle·ledger.specs.Notes.{sound-notes, within-limit};
-ghost use Rattle·statement.specs.Statements.{statement-answer, statement-leaves, statement-text};
-ghost use Rattle·day·specs.Calls.{issue-gives, made-before, made-with, statement-gives, with-notes};
-ghost use Rattle·day·specs.IssueNumbers.{issue-number};
-ghost use Rattle·day·specs.Memory.{memory};
+ghost use Rattle.std.specs.Prelude.{◌≡◌, ◌+◌, ◌^◌, ◌<◌, ◌≤◌, true, length, take, IfOk, MatchResult};
+ghost use Rattle.book.specs.Books.{held};
+ghost use Rattle.ledger.specs.Issues.{issue-answer, issue-leaves, new-notes};
+ghost use Rattle.ledger.specs.Notes.{sound-notes, within-limit};
+ghost use Rattle.statement.specs.Statements.{statement-answer, statement-leaves, statement-text};
+ghost use Rattle.day.specs.Calls.{issue-gives, made-before, made-with, statement-gives, with-notes};
+ghost use Rattle.day.specs.IssueNumbers.{issue-number};
+ghost use Rattle.day.specs.Memory.{memory};
+
 use crate::memory::passes;
 use crate::refused::Refused;
-use crate::state::Issued;
-use crate::state::Numbers;
-use crate::state::Settled;
+use crate::state::{Issued, Numbers, Settled};
 use book::book::Book;
 use codes::table::Table;
 use faults::fault::Fault;
@@ -27,8 +21,8 @@ use statement::issued::statement as put_statement;
 
 // The same numbers, with so many notes more.
 fn with_notes(numbers: Numbers, added: usize) -> Numbers
-    requires { ⌜ numbers .notes + added < 2 ^ 64 ⌝ }
-    ensures { λ r. ⌜ r ≡ with-notes numbers added ⌝ }
+    requires { numbers.notes + added < 2 ^ 64 }
+    ensures { result ≡ with-notes numbers added }
 {
     Numbers {
         heading: numbers.heading,
@@ -40,12 +34,12 @@ fn with_notes(numbers: Numbers, added: usize) -> Numbers
 
 // Adds the notes of the day's issue, unless there is too little room. Answers how many these are.
 fn add(numbers: &Numbers, table: &Table, ledger: &mut [Note]) -> Result<usize, Fault>
-    requires limited { ⌜ within-limit (now table) ≡ true ⌝ }
-    requires notes { ⌜ sound-notes (now ledger) (now numbers .notes) (made-before (now numbers)) ≡ true ⌝ }
-    ensures value { λ r. ⌜ r ≡ issue-answer (now (ledger .entry)) (now (numbers .entry) .notes) (new-notes (now (ledger .entry)) (now (numbers .entry) .notes) (issue-number (now (numbers .entry) .issue)) (now (table .entry))) ⌝ }
-    ensures after { λ _. ⌜ now (ledger .exit) ≡ issue-leaves (now (ledger .entry)) (now (numbers .entry) .notes) (new-notes (now (ledger .entry)) (now (numbers .entry) .notes) (issue-number (now (numbers .entry) .issue)) (now (table .entry))) ⌝ }
-    ensures ends { λ r. ⌜ Cases r (λ count. count ≡ length (new-notes (now (ledger .entry)) (now (numbers .entry) .notes) (issue-number (now (numbers .entry) .issue)) (now (table .entry)))) (λ _. now (ledger .exit) ≡ now (ledger .entry)) ⌝ }
-    ensures room { λ r. ⌜ made r (λ count. now (numbers .entry) .notes + count ≤ length (now (ledger .entry))) ⌝ }
+    requires limited { within-limit table.now ≡ true }
+    requires notes { sound-notes ledger.old numbers.now.notes (made-before numbers.now) ≡ true }
+    ensures value { result ≡ issue-answer ledger.old numbers.now.notes (new-notes ledger.old numbers.now.notes (issue-number numbers.now.issue) table.now) }
+    ensures after { ledger.new ≡ issue-leaves ledger.old numbers.now.notes (new-notes ledger.old numbers.now.notes (issue-number numbers.now.issue) table.now) }
+    ensures ends { MatchResult result (λ count. count ≡ length (new-notes ledger.old numbers.now.notes (issue-number numbers.now.issue) table.now)) (λ _. ledger.new ≡ ledger.old) }
+    ensures room { IfOk result (λ count. numbers.now.notes + count ≤ length ledger.old) }
 {
     add_notes(ledger, numbers.notes, numbers.issue.number(), table)
 }
@@ -57,7 +51,7 @@ pub fn issue(
     table: &Table,
     ledger: &mut [Note],
 ) -> Result<(Issued, usize), Refused<Settled>>
-    ensures { λ r. ⌜ (r, memory (held (now (book .entry))) (now (table .entry)) (now (ledger .exit))) ≡ issue-gives day (memory (held (now (book .entry))) (now (table .entry)) (now (ledger .entry))) ⌝ }
+    ensures { (result, memory (held book.now) table.now ledger.new) ≡ issue-gives day (memory (held book.now) table.now ledger.old) }
 {
     let Settled { numbers } = day;
     if !passes(&numbers, numbers.issue.number(), book, table, ledger) {
@@ -83,10 +77,10 @@ pub fn issue(
 
 // Writes the text of an issue, if it was made and the text fits. Answers how long it is.
 fn put(numbers: &Numbers, issue: u8, ledger: &[Note], buffer: &mut [u8]) -> Result<usize, Fault>
-    requires { ⌜ sound-notes (now ledger) (now numbers .notes) (made-with (now numbers)) ≡ true ⌝ }
-    ensures value { λ r. ⌜ r ≡ statement-answer (now (numbers .entry) .heading) (take (now (numbers .entry) .notes) (now (ledger .entry))) (made-with (now (numbers .entry))) issue (now (buffer .entry)) ⌝ }
-    ensures after { λ _. ⌜ now (buffer .exit) ≡ statement-leaves (now (numbers .entry) .heading) (take (now (numbers .entry) .notes) (now (ledger .entry))) (made-with (now (numbers .entry))) issue (now (buffer .entry)) ⌝ }
-    ensures ends { λ r. ⌜ Cases r (λ count. count ≡ length (statement-text (now (numbers .entry) .heading) (take (now (numbers .entry) .notes) (now (ledger .entry))) issue)) (λ _. now (buffer .exit) ≡ now (buffer .entry)) ⌝ }
+    requires { sound-notes ledger.now numbers.now.notes (made-with numbers.now) ≡ true }
+    ensures value { result ≡ statement-answer numbers.now.heading (take numbers.now.notes ledger.now) (made-with numbers.now) issue buffer.old }
+    ensures after { buffer.new ≡ statement-leaves numbers.now.heading (take numbers.now.notes ledger.now) (made-with numbers.now) issue buffer.old }
+    ensures ends { MatchResult result (λ count. count ≡ length (statement-text numbers.now.heading (take numbers.now.notes ledger.now) issue)) (λ _. buffer.new ≡ buffer.old) }
 {
     put_statement(
         &numbers.heading,
@@ -107,7 +101,7 @@ pub fn statement(
     ledger: &[Note],
     buffer: &mut [u8],
 ) -> Result<(Issued, usize), Refused<Issued>>
-    ensures { λ r. ⌜ (r, now (buffer .exit)) ≡ statement-gives day (memory (held (now (book .entry))) (now (table .entry)) (now (ledger .entry))) issue (now (buffer .entry)) ⌝ }
+    ensures { (result, buffer.new) ≡ statement-gives day (memory (held book.now) table.now ledger.now) issue buffer.old }
 {
     let Issued { numbers } = day;
     if !passes(&numbers, numbers.issue.number() + 1, book, table, ledger) {

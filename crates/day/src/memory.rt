@@ -1,21 +1,20 @@
 // The memory that a day works on, and whether it is the day's.
-ghost use mathlib.Core.Bool.{true};
-ghost use mathlib.Core.Path.{_≡_};
-ghost use Rattle·book.specs.Books.{held};
-ghost use Rattle·book.specs.Soundness.{sound-records};
-ghost use Rattle·ledger.specs.Notes.{sound-notes, within-limit};
-ghost use Rattle·day·specs.Memory.{memory, sound-memory};
+ghost use Rattle.std.specs.Prelude.{◌≡◌, true};
+ghost use Rattle.book.specs.Books.{held};
+ghost use Rattle.book.specs.Soundness.{sound-records};
+ghost use Rattle.ledger.specs.Notes.{sound-notes, within-limit};
+ghost use Rattle.day.specs.Memory.{memory, sound-memory};
+
 use crate::state::Numbers;
 use book::book::Book;
 use codes::table::Table;
 use ledger::note::Note;
-use ledger::sound::are_sound;
-use ledger::sound::is_within;
+use ledger::sound::{are_sound, is_within};
 
 // Are the book, the table and the ledger those that the calls of a day with these numbers, and so many issues, could
 // have left?
 pub fn is_sound(numbers: &Numbers, issues: u8, book: &Book, table: &Table, ledger: &[Note]) -> bool
-    ensures { λ r. ⌜ r ≡ sound-memory (now (numbers .entry)) issues (memory (held (now (book .entry))) (now (table .entry)) (now (ledger .entry))) ⌝ }
+    ensures { result ≡ sound-memory numbers.now issues (memory (held book.now) table.now ledger.now) }
 {
     book.is_of_day(&numbers.heading, &numbers.counts)
         && is_within(table)
@@ -30,10 +29,10 @@ pub(crate) fn passes(
     table: &Table,
     ledger: &[Note],
 ) -> bool
-    ensures value { λ r. ⌜ r ≡ sound-memory (now (numbers .entry)) issues (memory (held (now (book .entry))) (now (table .entry)) (now (ledger .entry))) ⌝ }
-    ensures records { λ r. ⌜ (r ≡ true → sound-records (held (now (book .entry))) ≡ true) ⌝ }
-    ensures limited { λ r. ⌜ (r ≡ true → within-limit (now (table .entry)) ≡ true) ⌝ }
-    ensures notes { λ r. ⌜ (r ≡ true → sound-notes (now (ledger .entry)) (now (numbers .entry) .notes) issues ≡ true) ⌝ }
+    ensures value { result ≡ sound-memory numbers.now issues (memory (held book.now) table.now ledger.now) }
+    ensures records { result ≡ true → sound-records (held book.now) ≡ true }
+    ensures limited { result ≡ true → within-limit table.now ≡ true }
+    ensures notes { result ≡ true → sound-notes ledger.now numbers.now.notes issues ≡ true }
 {
     is_sound(numbers, issues, book, table, ledger)
 }

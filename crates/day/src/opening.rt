@@ -1,25 +1,23 @@
 // The two calls that begin a day.
-ghost use mathlib.Core.Path.{_≡_};
-ghost use Rattle·book.specs.Books.{held};
-ghost use Rattle·day·specs.Calls.{first-numbers, load-answer, load-gives, open-gives};
-ghost use Rattle·day·specs.Memory.{empty-table, memory};
-ghost use Rattle·ledger.specs.Notes.{cleared};
-ghost use Rattle·loading.specs.Loading.{file-records, load-leaves};
+ghost use Rattle.std.specs.Prelude.{◌≡◌};
+ghost use Rattle.book.specs.Books.{held};
+ghost use Rattle.day.specs.Calls.{first-numbers, load-answer, load_gives, open_gives};
+ghost use Rattle.day.specs.Memory.{empty-table, memory};
+ghost use Rattle.ledger.specs.Notes.{cleared};
+ghost use Rattle.loading.specs.Loading.{file-records, load-leaves};
+
 use crate::issue_number::IssueNumber;
-use crate::state::Closed;
-use crate::state::Numbers;
-use crate::state::Open;
+use crate::state::{Closed, Numbers, Open};
 use book::book::Book;
 use codes::table::Table;
 use decoding::decode::decode_heading;
 use faults::fault::Fault;
-use ledger::note::Note;
-use ledger::note::clear;
+use ledger::note::{Note, clear};
 use loading::load::load as load_book;
 
 // The numbers of a day with the book's records, and no note.
 fn first_numbers(book: &Book) -> Numbers
-    ensures { λ r. ⌜ r ≡ first-numbers (held (now (book .entry))) ⌝ }
+    ensures { result ≡ first-numbers (held book.now) }
 {
     Numbers {
         heading: book.heading,
@@ -31,8 +29,8 @@ fn first_numbers(book: &Book) -> Numbers
 
 // Empties the table and the ledger.
 fn empty(table: &mut Table, ledger: &mut [Note])
-    ensures table { λ _. ⌜ now (table .exit) ≡ empty-table ⌝ }
-    ensures ledger { λ _. ⌜ now (ledger .exit) ≡ cleared (now (ledger .entry)) ⌝ }
+    ensures table { table.new ≡ empty-table }
+    ensures ledger { ledger.new ≡ cleared ledger.old }
 {
     table.clear();
     clear(ledger);
@@ -45,7 +43,7 @@ pub fn open(
     table: &mut Table,
     ledger: &mut [Note],
 ) -> Result<Open, Fault>
-    ensures { λ r. ⌜ (r, memory (held (now (book .exit))) (now (table .exit)) (now (ledger .exit))) ≡ open-gives (memory (held (now (book .entry))) (now (table .entry)) (now (ledger .entry))) (now (bytes .entry)) ⌝ }
+    ensures { (result, memory (held book.new) table.new ledger.new) ≡ open_gives (memory (held book.old) table.old ledger.old) bytes.now }
 {
     match decode_heading(bytes) {
         Ok(heading) => {
@@ -61,8 +59,8 @@ pub fn open(
 
 // A closed day with the records of a file; or no records, where the file is refused.
 fn load_records(file: &[u8], book: &mut Book) -> Result<Closed, Fault>
-    ensures value { λ r. ⌜ r ≡ load-answer (file-records (now (file .entry))) ⌝ }
-    ensures after { λ _. ⌜ held (now (book .exit)) ≡ load-leaves (held (now (book .entry))) (now (file .entry)) ⌝ }
+    ensures value { result ≡ load-answer (file-records file.now) }
+    ensures after { held book.new ≡ load-leaves (held book.old) file.now }
 {
     match load_book(book, file) {
         Ok(()) => Ok(Closed {
@@ -80,7 +78,7 @@ pub fn load(
     table: &mut Table,
     ledger: &mut [Note],
 ) -> Result<Closed, Fault>
-    ensures { λ r. ⌜ (r, memory (held (now (book .exit))) (now (table .exit)) (now (ledger .exit))) ≡ load-gives (memory (held (now (book .entry))) (now (table .entry)) (now (ledger .entry))) (now (file .entry)) ⌝ }
+    ensures { (result, memory (held book.new) table.new ledger.new) ≡ load_gives (memory (held book.old) table.old ledger.old) file.now }
 {
     empty(table, ledger);
     load_records(file, book)

@@ -1,14 +1,13 @@
 // The call that takes an issued day back, to be corrected and settled again.
-ghost use mathlib.Core.Path.{_≡_};
-ghost use Rattle·book.specs.Books.{held};
-ghost use Rattle·day·specs.Calls.{reopen-gives};
-ghost use Rattle·day·specs.Memory.{memory};
+ghost use Rattle.std.specs.Prelude.{◌≡◌};
+ghost use Rattle.book.specs.Books.{held};
+ghost use Rattle.day.specs.Calls.{reopen-gives};
+ghost use Rattle.day.specs.Memory.{memory};
+
 use crate::issue_number::IssueNumber;
 use crate::memory::is_sound;
 use crate::refused::Refused;
-use crate::state::Closed;
-use crate::state::Issued;
-use crate::state::Numbers;
+use crate::state::{Closed, Issued, Numbers};
 use book::book::Book;
 use codes::table::Table;
 use faults::fault::Fault;
@@ -22,7 +21,7 @@ pub fn reopen(
     table: &Table,
     ledger: &[Note],
 ) -> Result<Closed, Refused<Issued>>
-    ensures { λ r. ⌜ (r, memory (held (now (book .entry))) (now (table .entry)) (now (ledger .entry))) ≡ reopen-gives day (memory (held (now (book .entry))) (now (table .entry)) (now (ledger .entry))) ⌝ }
+    ensures { (result, memory (held book.now) table.now ledger.now) ≡ reopen-gives day (memory (held book.now) table.now ledger.now) }
 {
     let Issued { numbers } = day;
     if !is_sound(&numbers, numbers.issue.number() + 1, book, table, ledger) {

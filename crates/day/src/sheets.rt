@@ -1,21 +1,18 @@
 // The call that fills a second table with the sheet of an hour.
-ghost use mathlib.Core.Bool.{true};
-ghost use mathlib.Core.Path.{_≡_};
-ghost use Prim.Native.Nat.{ℕ};
-ghost use Rattle·book.specs.Books.{held};
-ghost use Rattle·book.specs.Soundness.{sound-records};
-ghost use Rattle·settlement.specs.Days.{sheet-refusal};
-ghost use Rattle·settlement.specs.Sheets.{sheet as sheet-of};
-ghost use Rattle·day·specs.Calls.{made-before, made-with, sheet-gives};
-ghost use Rattle·day·specs.Memory.{memory};
-ghost use Rattle·day·specs.Tables.{filled-with};
-ghost use Rattle·day·specs.declared.state.Numbers.{Numbers};
+ghost use Rattle.std.specs.Prelude.{◌≡◌, ℕ, true};
+ghost use Rattle.book.specs.Books.{held};
+ghost use Rattle.book.specs.Soundness.{sound-records};
+ghost use Rattle.settlement.specs.Days.{sheet-refusal};
+ghost use Rattle.settlement.specs.Sheets.{sheet as sheet-of};
+ghost use Rattle.day.specs.Calls.{made-before, made-with, sheet-gives};
+ghost use Rattle.day.specs.Memory.{memory};
+ghost use Rattle.day.specs.Tables.{filled-with};
+ghost use Rattle.day.specs.declared.state.Numbers.{Numbers};
+
 use crate::memory::passes;
 use crate::refused::Refused;
 use crate::settling::cells_in;
-use crate::state::Issued;
-use crate::state::Numbers;
-use crate::state::Settled;
+use crate::state::{Issued, Numbers, Settled};
 use book::book::Book;
 use codes::table::Table;
 use faults::fault::Fault;
@@ -31,17 +28,17 @@ pub trait Tabled {
     ghost made: { Self → ℕ };
 
     fn numbers(&self) -> Numbers
-        ensures { λ r. ⌜ r ≡ carried (now (self .entry)) ⌝ };
+        ensures { result ≡ carried self.now };
 
     // How many issues were made.
     fn issues(&self) -> u8
-        ensures { λ r. ⌜ r ≡ made (now (self .entry)) ⌝ };
+        ensures { result ≡ made self.now };
 }
 
-pub impl Tabled for Settled as SettledTabled {
-    ghost carried = { λ d. d .numbers };
+impl Tabled for Settled {
+    ghost carried = { λ d. d.numbers };
 
-    ghost made = { λ d. made-before (d .numbers) };
+    ghost made = { λ d. made-before d.numbers };
 
     fn numbers(&self) -> Numbers {
         self.numbers
@@ -52,10 +49,10 @@ pub impl Tabled for Settled as SettledTabled {
     }
 }
 
-pub impl Tabled for Issued as IssuedTabled {
-    ghost carried = { λ d. d .numbers };
+impl Tabled for Issued {
+    ghost carried = { λ d. d.numbers };
 
-    ghost made = { λ d. made-with (d .numbers) };
+    ghost made = { λ d. made-with d.numbers };
 
     fn numbers(&self) -> Numbers {
         self.numbers
@@ -68,9 +65,9 @@ pub impl Tabled for Issued as IssuedTabled {
 
 // Fills the page with the sheet of an hour, or says why not, and leaves it as it was.
 fn fill_page<R: Sharing>(book: &Book, hour: u8, rule: &R, page: &mut Table) -> Option<Fault>
-    requires { ⌜ sound-records (held (now book)) ≡ true ⌝ }
-    ensures value { λ r. ⌜ r ≡ sheet-refusal (held (now (book .entry))) hour ⌝ }
-    ensures after { λ _. ⌜ now (page .exit) ≡ filled-with (sheet-refusal (held (now (book .entry))) hour) (now (page .entry)) (sheet-of (R·Sharing .parts (now (rule .entry))) (held (now (book .entry))) hour) ⌝ }
+    requires { sound-records (held book.now) ≡ true }
+    ensures value { result ≡ sheet-refusal (held book.now) hour }
+    ensures after { page.new ≡ filled-with (sheet-refusal (held book.now) hour) page.old (sheet-of (R.Sharing.parts rule.now) (held book.now) hour) }
 {
     let answer = fill_sheet(book, hour, rule, page);
     let _ = cells_in(page);
@@ -90,7 +87,7 @@ pub fn sheet<D: Tabled, R: Sharing>(
     ledger: &[Note],
     page: &mut Table,
 ) -> Result<D, Refused<D>>
-    ensures { λ r. ⌜ (r, now (page .exit)) ≡ sheet-gives (R·Sharing .parts (now (rule .entry))) day (D·Tabled .carried day) (D·Tabled .made day) (memory (held (now (book .entry))) (now (table .entry)) (now (ledger .entry))) hour (now (page .entry)) ⌝ }
+    ensures { (result, page.new) ≡ sheet-gives (R.Sharing.parts rule.now) day (D.Tabled.carried day) (D.Tabled.made day) (memory (held book.now) table.now ledger.now) hour page.old }
 {
     if !passes(&day.numbers(), day.issues(), book, table, ledger) {
         let fault = Fault::plain(Refusal::UnsoundMemory);

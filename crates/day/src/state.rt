@@ -1,5 +1,6 @@
 // The states of a day.
-ghost use mathlib.Core.Path.{_≡_};
+ghost use Rattle.std.specs.Prelude.{◌≡◌};
+
 use crate::issue_number::IssueNumber;
 use book::counts::Counts;
 use dayfile::heading::Heading;
@@ -39,7 +40,7 @@ pub struct Issued {
 // No state can be dropped. Who has no more use for a day takes its numbers and lets the day go.
 impl Open {
     pub fn into_numbers(self) -> Numbers
-        ensures { λ r. ⌜ r ≡ self .numbers ⌝ }
+        ensures { result ≡ self.numbers }
     {
         let Open { numbers } = self;
         numbers
@@ -48,7 +49,7 @@ impl Open {
 
 impl Closed {
     pub fn into_numbers(self) -> Numbers
-        ensures { λ r. ⌜ r ≡ self .numbers ⌝ }
+        ensures { result ≡ self.numbers }
     {
         let Closed { numbers } = self;
         numbers
@@ -57,7 +58,7 @@ impl Closed {
 
 impl Settled {
     pub fn into_numbers(self) -> Numbers
-        ensures { λ r. ⌜ r ≡ self .numbers ⌝ }
+        ensures { result ≡ self.numbers }
     {
         let Settled { numbers } = self;
         numbers
@@ -66,7 +67,7 @@ impl Settled {
 
 impl Issued {
     pub fn into_numbers(self) -> Numbers
-        ensures { λ r. ⌜ r ≡ self .numbers ⌝ }
+        ensures { result ≡ self.numbers }
     {
         let Issued { numbers } = self;
         numbers

@@ -1,27 +1,17 @@
 // Memory that is written to between two calls of a day: each call is refused with 1, and leaves it as it was.
-use crate::days::AnsweredEnding;
-use crate::days::ClosedEnding;
-use crate::days::IssuedEnding;
-use crate::days::SettledEnding;
-use crate::days::issued;
-use crate::days::loaded;
-use crate::days::refused;
-use crate::days::settled;
+use crate::days::{issued, loaded, refused, settled};
 use book::book::Book;
-use correcting::reading::Reading;
 use codes::code::Code;
 use codes::table::Table;
+use correcting::reading::Reading;
 use day::correcting::correct;
-use day::issuing::issue;
-use day::issuing::statement;
+use day::issuing::{issue, statement};
 use day::reopening::reopen;
 use day::settling::settle;
 use dayfile::heading::Heading;
 use ledger::note::Note;
 use sharing::choice::Rule;
-use sharing::choice::RuleSharing;
-use std::test::Note as _;
-use std::test::*;
+use std::test::Fail;
 
 const READING: Reading = Reading {
     account: 1,
@@ -40,7 +30,7 @@ fn first_reading(book: &Book) -> Option<u32> {
 }
 
 #[test]
-fn another_heading(rt: LibcRuntime) -> Result<(), Fail> {
+fn another_heading(rt: HostRuntime) -> Result<(), Fail> {
     let mut book = Book::new(rt.alloc())?;
     let mut table = Table::new();
     let mut ledger = [Note::none(); 8];
@@ -50,26 +40,27 @@ fn another_heading(rt: LibcRuntime) -> Result<(), Fail> {
     let day = loaded(&mut book, &mut table, &mut ledger)?;
     book.heading = other;
     let number = refused(correct(day, READING, &mut book, &table, &ledger));
-    check_eq(number, 1)?;
-    check_eq(book.heading.day, 6)?;
-    check_eq(first_reading(&book), Some(2000))
+    assert_eq!(rt; number, 1);
+    assert_eq!(rt; book.heading.day, 6);
+    assert_eq!(rt; first_reading(&book), Some(2000));
+    Ok(())
 }
 
 #[test]
-fn other_counts(rt: LibcRuntime) -> Result<(), Fail> {
+fn other_counts(rt: HostRuntime) -> Result<(), Fail> {
     let mut book = Book::new(rt.alloc())?;
     let mut table = Table::new();
     let mut ledger = [Note::none(); 8];
     let day = loaded(&mut book, &mut table, &mut ledger)?;
     let _ = book.positions.pop();
     let number = refused(settle(day, &Rule::Running, &book, &mut table, &ledger));
-    check_eq(number, 1)?;
-    check_eq(book.positions.len(), 1)?;
+    assert_eq!(rt; number, 1);
+    assert_eq!(rt; book.positions.len(), 1);
     check_eq(table.amount(Code::A1, 1), 0).note("nothing was settled")
 }
 
 #[test]
-fn a_cell_beyond_the_limit(rt: LibcRuntime) -> Result<(), Fail> {
+fn a_cell_beyond_the_limit(rt: HostRuntime) -> Result<(), Fail> {
     let mut book = Book::new(rt.alloc())?;
     let mut table = Table::new();
     let mut ledger = [Note::none(); 8];
@@ -77,27 +68,29 @@ fn a_cell_beyond_the_limit(rt: LibcRuntime) -> Result<(), Fail> {
     let day = settled(day, &book, &mut table, &ledger)?;
     table.put(Code::F6, 52, -100_000_000_000_000_001);
     let number = refused(issue(day, &book, &table, &mut ledger));
-    check_eq(number, 1)?;
+    assert_eq!(rt; number, 1);
     check_eq(ledger[0].code, 0).note("no note was added")?;
-    check_eq(table.amount(Code::F6, 52), -100_000_000_000_000_001)?;
-    check_eq(table.amount(Code::A1, 1), -100_000_000)
+    assert_eq!(rt; table.amount(Code::F6, 52), -100_000_000_000_000_001);
+    assert_eq!(rt; table.amount(Code::A1, 1), -100_000_000);
+    Ok(())
 }
 
 #[test]
-fn an_unknown_code(rt: LibcRuntime) -> Result<(), Fail> {
+fn an_unknown_code(rt: HostRuntime) -> Result<(), Fail> {
     let mut book = Book::new(rt.alloc())?;
     let mut table = Table::new();
     let mut ledger = [Note::none(); 8];
     let day = issued(&mut book, &mut table, &mut ledger)?;
     ledger[0].code = 15;
     let number = refused(reopen(day, &book, &table, &ledger));
-    check_eq(number, 1)?;
-    check_eq(ledger[0].code, 15)?;
-    check_eq(ledger[1].amount, -50_000_000)
+    assert_eq!(rt; number, 1);
+    assert_eq!(rt; ledger[0].code, 15);
+    assert_eq!(rt; ledger[1].amount, -50_000_000);
+    Ok(())
 }
 
 #[test]
-fn notes_out_of_order(rt: LibcRuntime) -> Result<(), Fail> {
+fn notes_out_of_order(rt: HostRuntime) -> Result<(), Fail> {
     let mut book = Book::new(rt.alloc())?;
     let mut table = Table::new();
     let mut ledger = [Note::none(); 8];
@@ -105,7 +98,7 @@ fn notes_out_of_order(rt: LibcRuntime) -> Result<(), Fail> {
     let day = issued(&mut book, &mut table, &mut ledger)?;
     ledger.swap(0, 1);
     let number = refused(statement(day, 0, &book, &table, &ledger, &mut buffer));
-    check_eq(number, 1)?;
-    check(ledger[0].party == 2 && ledger[1].party == 1)?;
+    assert_eq!(rt; number, 1);
+    assert!(rt; ledger[0].party == 2 && ledger[1].party == 1);
     check(buffer == [7; 200]).note("nothing was written")
 }

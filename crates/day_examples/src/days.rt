@@ -5,12 +5,9 @@ use day::issuing::issue;
 use day::opening::load;
 use day::refused::Refused;
 use day::settling::settle;
-use day::state::Closed;
-use day::state::Issued;
-use day::state::Settled;
+use day::state::{Closed, Issued, Settled};
 use ledger::note::Note;
 use sharing::choice::Rule;
-use sharing::choice::RuleSharing;
 use std::test::Fail;
 
 // 2019-03-05 with 24 hours, 2 accounts, 1 node and no interconnection; the price of hour 7; and what the two accounts bought
@@ -23,25 +20,25 @@ pub trait Ending {
     fn end(self);
 }
 
-pub impl Ending for Closed as ClosedEnding {
+impl Ending for Closed {
     fn end(self) {
         let _ = self.into_numbers();
     }
 }
 
-pub impl Ending for Settled as SettledEnding {
+impl Ending for Settled {
     fn end(self) {
         let _ = self.into_numbers();
     }
 }
 
-pub impl Ending for Issued as IssuedEnding {
+impl Ending for Issued {
     fn end(self) {
         let _ = self.into_numbers();
     }
 }
 
-pub impl Ending for (Issued, usize) as AnsweredEnding {
+impl Ending for (Issued, usize) {
     fn end(self) {
         let (day, _) = self;
         let _ = day.into_numbers();

@@ -3,16 +3,11 @@ use crate::days::FILE;
 use book::book::Book;
 use codes::table::Table;
 use history::replay::replay;
-use history::steps::Answer;
-use history::steps::Begin;
-use history::steps::NotBegun;
-use history::steps::Replay;
-use history::steps::Step;
+use history::steps::{Answer, Begin, NotBegun, Replay, Step};
 use ledger::note::Note;
 use sharing::choice::Rule;
-use sharing::choice::RuleSharing;
 use std::alloc::Global;
-use std::test::*;
+use std::test::Fail;
 
 const HEADING: [u8; 10] = *b"DY\x07\xe3\x03\x05\x18\x02\x01\x00";
 
@@ -36,14 +31,7 @@ fn answers<'a>(
     let mut table = Table::new();
     let mut page = Table::new();
     match replay(
-        heap,
-        start,
-        steps,
-        &mut book,
-        &mut table,
-        ledger,
-        &mut page,
-        buffer,
+        heap, start, steps, &mut book, &mut table, ledger, &mut page, buffer,
     ) {
         Ok(Replay { day, answers }) => {
             let _ = day.into_numbers();
@@ -77,7 +65,7 @@ fn refusal(answers: &[Answer], index: usize) -> u8 {
 }
 
 #[test]
-fn two_rules(rt: LibcRuntime) -> Result<(), Fail> {
+fn two_rules(rt: HostRuntime) -> Result<(), Fail> {
     let steps = [
         Step::Settle(&Rule::Running),
         Step::Issue,
@@ -95,16 +83,17 @@ fn two_rules(rt: LibcRuntime) -> Result<(), Fail> {
         &mut ledger,
         &mut buffer,
     )?;
-    check_eq(told.len(), 6)?;
-    check_eq(count(told.as_slice(), 1), Some(7))?;
-    check_eq(count(told.as_slice(), 4), Some(4))?;
-    check_eq(count(told.as_slice(), 5), Some(62))?;
-    check(ledger[7].issue == 1 && ledger[7].code == 2 && ledger[7].amount == 1)?;
-    check(ledger[8].party == 2 && ledger[8].amount == -1)
+    assert_eq!(rt; told.len(), 6);
+    assert_eq!(rt; count(told.as_slice(), 1), Some(7));
+    assert_eq!(rt; count(told.as_slice(), 4), Some(4));
+    assert_eq!(rt; count(told.as_slice(), 5), Some(62));
+    assert!(rt; ledger[7].issue == 1 && ledger[7].code == 2 && ledger[7].amount == 1);
+    assert!(rt; ledger[8].party == 2 && ledger[8].amount == -1);
+    Ok(())
 }
 
 #[test]
-fn refused_in_the_middle(rt: LibcRuntime) -> Result<(), Fail> {
+fn refused_in_the_middle(rt: HostRuntime) -> Result<(), Fail> {
     let steps = [
         Step::Enter(&PRICE),
         Step::Enter(&PRICE),
@@ -123,16 +112,17 @@ fn refused_in_the_middle(rt: LibcRuntime) -> Result<(), Fail> {
         &mut ledger,
         &mut buffer,
     )?;
-    check_eq(told.len(), 7)?;
-    check_eq(refusal(told.as_slice(), 1), 7)?;
-    check(is_done(told.as_slice(), 2))?;
-    check_eq(refusal(told.as_slice(), 3), 9)?;
-    check(is_done(told.as_slice(), 4))?;
-    check_eq(count(told.as_slice(), 6), Some(2))
+    assert_eq!(rt; told.len(), 7);
+    assert_eq!(rt; refusal(told.as_slice(), 1), 7);
+    assert!(rt; is_done(told.as_slice(), 2));
+    assert_eq!(rt; refusal(told.as_slice(), 3), 9);
+    assert!(rt; is_done(told.as_slice(), 4));
+    assert_eq!(rt; count(told.as_slice(), 6), Some(2));
+    Ok(())
 }
 
 #[test]
-fn no_fifth_issue(rt: LibcRuntime) -> Result<(), Fail> {
+fn no_fifth_issue(rt: HostRuntime) -> Result<(), Fail> {
     let steps = [
         Step::Settle(&Rule::Running),
         Step::Issue,
@@ -157,8 +147,9 @@ fn no_fifth_issue(rt: LibcRuntime) -> Result<(), Fail> {
         &mut ledger,
         &mut buffer,
     )?;
-    check_eq(told.len(), 12)?;
-    check_eq(count(told.as_slice(), 1), Some(7))?;
-    check_eq(count(told.as_slice(), 10), Some(0))?;
-    check_eq(refusal(told.as_slice(), 11), 14)
+    assert_eq!(rt; told.len(), 12);
+    assert_eq!(rt; count(told.as_slice(), 1), Some(7));
+    assert_eq!(rt; count(told.as_slice(), 10), Some(0));
+    assert_eq!(rt; refusal(told.as_slice(), 11), 14);
+    Ok(())
 }

@@ -1,37 +1,27 @@
 -- The first issue: its notes are few, and it is never refused for want of room.
-use mathlib.Core.Bool.{Bool, true, false, cond, _&&_}
-use mathlib.Core.List.{List, [], _∷_, _++_}
-use mathlib.Core.Path.{_≡_, refl, sym, ap, subst, _∙_}
-use Prim.Native.Nat.{ℕ, zero, suc, _+_, _*_, _/_, _%_, _<_, _≤_}
-use native.Mathlib.Nat.{mul-suc, zero-add}
-use native.Mathlib.Omega.{arith}
-use lib.Dec.{leb, ltb}
-use lib.IntN.{ℤ, pos, negsuc, natAbs, _-ℤ_}
-use lib.ListN.{getD, length, length-append, replicate, take}
-use Rattle·std.proofs.shelf.Signed.{ints}
-use Rattle·std.proofs.shelf.Tests.{and-from, cond-true, le-leb, lt-ltb}
-use Rattle·std.specs.Joined.{joined}
-use Rattle·std.specs.declared.result.Result.the-variants.{Err, Ok}
-use Rattle·faults.specs.Places.{plain}
-use Rattle·faults.specs.declared.refusal.Refusal.the-variants.{LedgerFull}
-use Rattle·codes.specs.Cells.{cell, cell-at, cell-count}
-use Rattle·codes.specs.Codes.{all-codes, code-at}
-use Rattle·codes.specs.Parties.{party-count, party-numbers}
-use Rattle·codes.specs.declared.code.Code.{Code}
-use Rattle·codes.specs.declared.table.Table.{Table}
-use Rattle·codes.specs.declared.table.TableCell.{TableCell}
-use Rattle·codes.proofs.Laws.{places-tell-cells}
-use Rattle·std.specs.declared.option.Option.the-variants.{None, Some}
-use Rattle·ledger.proofs.Laws.{appended, halves, kept-sound}
-use Rattle·ledger.specs.Issues.{issue-answer, issue-leaves, new-notes, note-for, notes-of, row-notes}
-use Rattle·ledger.specs.Notes.{all-within, amount-limit, sound-notes, within, within-limit}
-use Rattle·ledger.specs.declared.note.Note.{Note}
+use Rattle.std.proofs.Common.{◌≡◌, ℕ, zero, suc, ◌+◌, ◌*◌, ◌/◌, ◌%◌, ◌<◌, ◌≤◌, Bool, true, false, cond, ◌&&◌, ltb, leb, List, [], ◌∷◌, ◌++◌, length, get_or, take, replicate, ℤ, pos, negsuc, ◌-ℤ◌, nat_abs, Some, None, Ok, Err, sym, refl, ap, ◌∙◌, subst, zero-add, mul-suc, arith, length-append}
+use Rattle.std.proofs.lemmas.Int.{ints}
+use Rattle.std.proofs.lemmas.Bool.{and_from, cond-true, le-leb, lt-ltb}
+use Rattle.std.specs.List.{flat_map}
+use Rattle.faults.specs.Places.{plain}
+use Rattle.faults.specs.declared.refusal.Refusal.TheVariants.{LedgerFull}
+use Rattle.codes.specs.Cells.{cell, cell_at, cell-count}
+use Rattle.codes.specs.Codes.{all_codes, code_at}
+use Rattle.codes.specs.Parties.{party-count, party-numbers}
+use Rattle.codes.specs.declared.code.Code.{Code}
+use Rattle.codes.specs.declared.table.Table.{Table}
+use Rattle.codes.specs.declared.table.TableCell.{TableCell}
+use Rattle.codes.proofs.Laws.{places-tell-cells}
+use Rattle.ledger.proofs.Laws.{appended, halves, kept-sound}
+use Rattle.ledger.specs.Issues.{issue-answer, issue-leaves, new-notes, note-for, notes-of, row-notes}
+use Rattle.ledger.specs.Notes.{all-within, amount-limit, sound-notes, within, within-limit}
+use Rattle.ledger.specs.declared.note.Note.{Note}
 
 -- pieces of at most m elements each
-joined-few : {X Y : Type 0} (f : X → List Y) (m : ℕ) → ((x : X) → length (f x) ≤ m) → (xs : List X) → length (joined f xs) ≤ m * length xs
+joined-few : {X Y : Type 0} (f : X → List Y) (m : ℕ) → ((x : X) → length (f x) ≤ m) → (xs : List X) → length (flat_map f xs) ≤ m * length xs
 joined-few f m h [] = omega arith
 joined-few f m h (x ∷ xs) =
-    let more = length-append (f x) (joined f xs) in
+    let more = length-append (f x) (flat_map f xs) in
     let here = h x in
     let rest = joined-few f m h xs in
     let all = mul-suc m (length xs) in
@@ -48,37 +38,37 @@ row-few number f code = joined-few (λ party. note-for number code party (f code
 
 pub notes-few : (number : ℕ) (f : Code → ℕ → ℤ) → length (notes-of number f) ≤ cell-count
 unfolding notes-of
-notes-few number f = joined-few (row-notes number f party-numbers) party-count (row-few number f) all-codes
+notes-few number f = joined-few (row-notes number f party-numbers) party-count (row-few number f) all_codes
 
 less-nothing : (z : ℤ) → z -ℤ pos 0 ≡ z
 less-nothing z = omega (arith, ints)
 
 -- each cell of a table is the cell of a code and a party
-each-within : (zs : List ℤ) → ((i : ℕ) → i < length zs → within (getD zs i (pos 0)) ≡ true) → all-within zs ≡ true
-each-within [] h = refl
-each-within (z ∷ zs) h = and-from (within z) (all-within zs) (h 0 (omega arith)) (each-within zs (λ i k. h (suc i) (omega arith)))
+each_within : (zs : List ℤ) → ((i : ℕ) → i < length zs → within (get_or zs i (pos 0)) ≡ true) → all-within zs ≡ true
+each_within [] h = refl
+each_within (z ∷ zs) h = and_from (within z) (all-within zs) (h 0 (omega arith)) (each_within zs (λ i k. h (suc i) (omega arith)))
 
-pub cells-within : (t : Table) → length (t .cells) ≡ cell-count → ((code : Code) (party : ℕ) → natAbs (cell t code party) ≤ amount-limit / 2) → within-limit t ≡ true
+pub cells-within : (t : Table) → length t.cells ≡ cell-count → ((code : Code) (party : ℕ) → nat_abs (cell t code party) ≤ amount-limit / 2) → within-limit t ≡ true
 unfolding within-limit
 cells-within t n h =
-    each-within (t .cells)
+    each_within t.cells
     (λ i k.
-    let c : TableCell = record { code = code-at (i / party-count); party = getD party-numbers (i % party-count) 0; amount = getD (t .cells) i (pos 0) } in
-    let found : cell-at t i ≡ Some c = cond-true (ltb i cell-count) (Some c) None (lt-ltb i cell-count (omega arith)) in
+    let c : TableCell = record { code = code_at (i / party-count); party = get_or party-numbers (i % party-count) 0; amount = get_or t.cells i (pos 0) } in
+    let found : cell_at t i ≡ Some c = cond-true (ltb i cell-count) (Some c) None (lt-ltb i cell-count (omega arith)) in
     let told = places-tell-cells t i c found in
-    le-leb (natAbs (getD (t .cells) i (pos 0))) amount-limit (omega (arith, ap natAbs told, h (c .code) (c .party))))
+    le-leb (nat_abs (get_or t.cells i (pos 0))) amount-limit (omega (arith, ap nat_abs told, h c.code c.party)))
 
 -- with no earlier notes, a note for each cell that is not 0
 pub first-notes : (led : List Note) (number : ℕ) (t : Table) → new-notes led 0 number t ≡ notes-of number (cell t)
 first-notes led number t = ap (notes-of number) (λ i code party. less-nothing (cell t code party) i)
 
 -- an issue into an empty ledger with room for every cell
-module _ (led : List Note) (t : Table) (room : cell-count ≤ length led) (small : (code : Code) (party : ℕ) → natAbs (cell t code party) ≤ amount-limit / 2) where
+module _ (led : List Note) (t : Table) (room : cell-count ≤ length led) (small : (code : Code) (party : ℕ) → nat_abs (cell t code party) ≤ amount-limit / 2) where
   abbrev new : List Note
   new = new-notes led 0 0 t
 
   pub none-sound : (issues : ℕ) → sound-notes led 0 issues ≡ true
-  none-sound issues = and-from (leb 0 (length led)) true (le-leb 0 (length led) (omega arith)) refl
+  none-sound issues = and_from (leb 0 (length led)) true (le-leb 0 (length led) (omega arith)) refl
 
   pub few : length new ≤ cell-count
   few = rw (first-notes led 0 t) (notes-few 0 (cell t))

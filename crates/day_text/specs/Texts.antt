@@ -1,27 +1,22 @@
 -- What is printed of a day file: the statement of its first issue under the running rule, or the line of its refusal.
-use mathlib.Core.List.{List}
-use Prim.Native.Nat.{ℕ}
-use Rattle·std.specs.declared.option.Option.{Option}
-use Rattle·std.specs.declared.option.Option.the-variants.{None, Some}
-use Rattle·std.specs.declared.result.Result.{Result}
-use Rattle·std.specs.declared.result.Result.the-variants.{Err, Ok}
-use Rattle·codes.specs.Cells.{cell-count}
-use Rattle·dayfile.specs.Records.{Records}
-use Rattle·faults.specs.declared.fault.Fault.{Fault}
-use Rattle·ledger.specs.Issues.{notes-of}
-use Rattle·ledger.specs.declared.note.Note.{Note}
-use Rattle·loading.specs.Loading.{file-records}
-use Rattle·settlement.specs.Days.{day-cell, settle-refusal}
-use Rattle·sharing.specs.Running.{running}
-use Rattle·statement.specs.Statements.{statement-room, statement-text}
-use Rattle·text.specs.Lines.{refused-text}
+use Rattle.std.specs.Prelude.{ℕ, List, Some, None, Ok, Err, Option, Result}
+use Rattle.codes.specs.Cells.{cell-count}
+use Rattle.dayfile.specs.Records.{Records}
+use Rattle.faults.specs.declared.fault.Fault.{Fault}
+use Rattle.ledger.specs.Issues.{notes-of}
+use Rattle.ledger.specs.declared.note.Note.{Note}
+use Rattle.loading.specs.Loading.{file-records}
+use Rattle.settlement.specs.Days.{day-cell, settle-refusal}
+use Rattle.sharing.specs.Running.{running}
+use Rattle.statement.specs.Statements.{statement-room, statement-text}
+use Rattle.text.specs.Lines.{refused-text}
 
 -- the notes of the first issue: one for each cell of the day that is not 0
 abbrev pub first-notes : Records → List Note
 first-notes r = notes-of 0 (day-cell running r)
 
 abbrev pub settled-text : Records → Option Fault → List ℕ
-settled-text r None = statement-text (r .heading) (first-notes r) 0
+settled-text r None = statement-text r.heading (first-notes r) 0
 settled-text r (Some fault) = refused-text fault
 
 abbrev pub loaded-text : Result Records Fault → List ℕ

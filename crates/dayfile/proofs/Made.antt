@@ -1,45 +1,40 @@
 -- A heading is its fields.
-use Prim.Native.Nat.{ℕ}
-use mathlib.Core.Path.{_≡_, refl}
-use mathlib.Core.Bool.{Bool, true, false, _&&_}
-use lib.Dec.{T, eqb}
-use Rattle·std.proofs.shelf.Tests.{and-parts, eqb-true}
-use Rattle·std.specs.declared.option.Option.{Option}
-use Rattle·std.specs.declared.option.Option.the-variants.{Some}
-use Rattle·dayfile·specs.declared.heading.Heading.{Heading}
-use Rattle·dayfile·specs.Headings.{heading-of, provided, same-fields}
+use Rattle.std.proofs.Common.{◌≡◌, ℕ, Bool, true, false, ◌&&◌, T, eqb, Some, Option, refl}
+use Rattle.std.proofs.lemmas.Bool.{and_parts, eqb-true}
+use Rattle.dayfile.specs.declared.heading.Heading.{Heading}
+use Rattle.dayfile.specs.Headings.{heading-of, provided, same-fields}
 
 -- a test that holds provides the value, whatever the proof that it holds
 pub provides : {X : Type 0} → (test : Bool) (make : T test → X) (holds : T test) → provided test make ≡ Some (make holds)
 provides true make holds = refl
 provides false make holds = absurd holds
 
-pub made : (a : Heading) → heading-of (a .year) (a .month) (a .day) (a .hours) (a .accounts) (a .nodes) (a .interconnections) ≡ Some a
-made a = provides _ _ (a .real)
+pub made : (a : Heading) → heading-of a.year a.month a.day a.hours a.accounts a.nodes a.interconnections ≡ Some a
+made a = provides _ _ a.real
 
 -- `heading-of` as a function that does not compute, so that equal fields give equal headings by congruence
 shut : ℕ → ℕ → ℕ → ℕ → ℕ → ℕ → ℕ → Option Heading
 shut = heading-of
 
-shut-made : (a : Heading) → shut (a .year) (a .month) (a .day) (a .hours) (a .accounts) (a .nodes) (a .interconnections) ≡ Some a
+shut-made : (a : Heading) → shut a.year a.month a.day a.hours a.accounts a.nodes a.interconnections ≡ Some a
 unfolding shut
 shut-made a = made a
 
 pub same : (a b : Heading) → same-fields a b ≡ true → a ≡ b
 same a b s =
-    let p = and-parts (eqb (a .year) (b .year)) _ s in
-    let q = and-parts (eqb (a .month) (b .month)) _ (p .1) in
-    let r = and-parts (eqb (a .day) (b .day)) _ (q .1) in
-    let t = and-parts (eqb (a .hours) (b .hours)) _ (r .1) in
-    let u = and-parts (eqb (a .accounts) (b .accounts)) _ (t .1) in
-    let v = and-parts (eqb (a .nodes) (b .nodes)) _ (u .1) in
-    let year = eqb-true (a .year) (b .year) (p .0) in
-    let month = eqb-true (a .month) (b .month) (q .0) in
-    let day = eqb-true (a .day) (b .day) (r .0) in
-    let hours = eqb-true (a .hours) (b .hours) (t .0) in
-    let accounts = eqb-true (a .accounts) (b .accounts) (u .0) in
-    let nodes = eqb-true (a .nodes) (b .nodes) (v .0) in
-    let interconnections = eqb-true (a .interconnections) (b .interconnections) (v .1) in
+    let p = and_parts (eqb a.year b.year) _ s in
+    let q = and_parts (eqb a.month b.month) _ p.1 in
+    let r = and_parts (eqb a.day b.day) _ q.1 in
+    let t = and_parts (eqb a.hours b.hours) _ r.1 in
+    let u = and_parts (eqb a.accounts b.accounts) _ t.1 in
+    let v = and_parts (eqb a.nodes b.nodes) _ u.1 in
+    let year = eqb-true a.year b.year p.0 in
+    let month = eqb-true a.month b.month q.0 in
+    let day = eqb-true a.day b.day r.0 in
+    let hours = eqb-true a.hours b.hours t.0 in
+    let accounts = eqb-true a.accounts b.accounts u.0 in
+    let nodes = eqb-true a.nodes b.nodes v.0 in
+    let interconnections = eqb-true a.interconnections b.interconnections v.1 in
     let one = shut-made a in
     let other = shut-made b in
     cc

@@ -1,12 +1,7 @@
 -- Headings made of their fields.
-use Prim.Native.Nat.{ℕ}
-use mathlib.Core.Bool.{Bool, true, false, _&&_}
-use mathlib.Core.Path.{_≡_}
-use lib.Dec.{T, eqb}
-use Rattle·std.specs.declared.option.Option.{Option}
-use Rattle·std.specs.declared.option.Option.the-variants.{Some, None}
-use Rattle·dayfile·specs.Calendar.{real-heading}
-use Rattle·dayfile·specs.declared.heading.Heading.{Heading}
+use Rattle.std.specs.Prelude.{◌≡◌, ℕ, Bool, true, false, ◌&&◌, T, Some, None, Option, ◌==◌}
+use Rattle.dayfile.specs.Calendar.{real-heading}
+use Rattle.dayfile.specs.declared.heading.Heading.{Heading}
 
 -- a value that can be made where the test holds
 abbrev pub provided : {X : Type 0} → (test : Bool) → (T test → X) → Option X
@@ -21,8 +16,8 @@ heading-of year month day hours accounts nodes interconnections =
 
 abbrev pub same-fields : Heading → Heading → Bool
 same-fields a b =
-    eqb (a .year) (b .year) && (eqb (a .month) (b .month) && (eqb (a .day) (b .day) && (eqb (a .hours) (b .hours)
-    && (eqb (a .accounts) (b .accounts) && (eqb (a .nodes) (b .nodes) && eqb (a .interconnections) (b .interconnections))))))
+    (a.year == b.year) && (a.month == b.month && (a.day == b.day && (a.hours == b.hours
+    && (a.accounts == b.accounts && (a.nodes == b.nodes && a.interconnections == b.interconnections)))))
 
 -- a heading is its fields
 abbrev pub Headings-are-their-fields : Type 0
@@ -30,4 +25,4 @@ Headings-are-their-fields = (a b : Heading) → same-fields a b ≡ true → a �
 
 -- what a heading holds is what it could be made of
 abbrev pub Headings-are-made : Type 0
-Headings-are-made = (a : Heading) → heading-of (a .year) (a .month) (a .day) (a .hours) (a .accounts) (a .nodes) (a .interconnections) ≡ Some a
+Headings-are-made = (a : Heading) → heading-of a.year a.month a.day a.hours a.accounts a.nodes a.interconnections ≡ Some a

@@ -1,18 +1,19 @@
 // Which dates are real, and the headings made of them.
-ghost use mathlib.Core.Path.{_≡_};
-ghost use Rattle·dayfile·specs.Calendar.{days-in, leap-year, real-heading};
-ghost use Rattle·dayfile·specs.Headings.{Headings-are-made, Headings-are-their-fields, heading-of, same-fields};
+ghost use Rattle.std.specs.Prelude.{◌≡◌};
+ghost use Rattle.dayfile.specs.Calendar.{days-in, leap-year, real-heading};
+ghost use Rattle.dayfile.specs.Headings.{Headings-are-made, Headings-are-their-fields, heading-of, same-fields};
+
 use crate::heading::Heading;
 
 fn is_leap_year(year: u16) -> bool
-    ensures { λ r. ⌜ r ≡ leap-year year ⌝ }
+    ensures { result ≡ leap-year year }
 {
     year % 4 == 0 && (year % 100 != 0 || year % 400 == 0)
 }
 
 // How many days the month has; 31 for a number that is no month.
 fn days_in_month(year: u16, month: u8) -> u8
-    ensures { λ r. ⌜ r ≡ days-in year month ⌝ }
+    ensures { result ≡ days-in year month }
 {
     match month {
         2 => { if is_leap_year(year) { 29 } else { 28 } }
@@ -31,7 +32,7 @@ fn is_real(
     nodes: u8,
     interconnections: u8,
 ) -> bool
-    ensures { λ r. ⌜ r ≡ real-heading year month day hours accounts nodes interconnections ⌝ }
+    ensures { result ≡ real-heading year month day hours accounts nodes interconnections }
 {
     year >= 2016
         && year <= 2099
@@ -59,7 +60,7 @@ impl Heading {
         nodes: u8,
         interconnections: u8,
     ) -> Option<Heading>
-        ensures { λ r. ⌜ r ≡ heading-of year month day hours accounts nodes interconnections ⌝ }
+        ensures { result ≡ heading-of year month day hours accounts nodes interconnections }
     {
         if !is_real(year, month, day, hours, accounts, nodes, interconnections) {
             return None;
@@ -78,7 +79,7 @@ impl Heading {
 
 // Are two headings the same? They are where their fields are.
 pub fn same_heading(a: Heading, b: Heading) -> bool
-    ensures { λ r. ⌜ r ≡ same-fields a b ⌝ }
+    ensures { result ≡ same-fields a b }
 {
     a.year == b.year
         && a.month == b.month
@@ -91,8 +92,8 @@ pub fn same_heading(a: Heading, b: Heading) -> bool
 
 // A heading holds nothing but its fields: every heading is the one that they make, and two with the same fields are one.
 pub fn headings_stand() -> u8
-    ensures made { λ _. ⌜ Headings-are-made ⌝ }
-    ensures same { λ _. ⌜ Headings-are-their-fields ⌝ }
+    ensures made { Headings-are-made }
+    ensures same { Headings-are-their-fields }
 {
     0
 }

@@ -1,6 +1,6 @@
 // The heading of a day: its date, and how many hours, accounts, nodes and interconnections it has.
-ghost use lib.Dec.{T};
-ghost use Rattle·dayfile·specs.Calendar.{real-heading};
+ghost use Rattle.std.specs.Prelude.{T};
+ghost use Rattle.dayfile.specs.Calendar.{real-heading};
 
 // A heading always has a real date, 23, 24 or 25 hours, and counts within their ranges: no value of another kind can be made.
 #[derive(Clone, Copy)]

@@ -1,7 +1,6 @@
 // The two letters that a record begins with, and the length that they give it.
-ghost use mathlib.Core.Path.{_≡_};
-ghost use Prim.Native.Nat.{_≤_};
-ghost use Rattle·dayfile·specs.Marks.{mark-length, mark-letters, mark-of};
+ghost use Rattle.std.specs.Prelude.{◌≡◌, ◌≤◌};
+ghost use Rattle.dayfile.specs.Marks.{mark-length, mark-letters, mark_of};
 
 #[derive(Clone, Copy)]
 pub enum Mark {
@@ -18,7 +17,7 @@ pub enum Mark {
 impl Mark {
     // The mark with these letters, if there is one.
     pub fn from_letters(first: u8, second: u8) -> Option<Mark>
-        ensures { λ r. ⌜ r ≡ mark-of first second ⌝ }
+        ensures { result ≡ mark_of first second }
     {
         match (first, second) {
             (b'D', b'Y') => Some(Mark::Day),
@@ -34,7 +33,7 @@ impl Mark {
     }
 
     pub fn letters(self) -> [u8; 2]
-        ensures { λ r. ⌜ r ≡ mark-letters self ⌝ }
+        ensures { result ≡ mark-letters self }
     {
         match self {
             Mark::Day => *b"DY",
@@ -50,8 +49,8 @@ impl Mark {
 
     // The length of a record with this mark, the mark included.
     pub fn length(self) -> usize
-        ensures value { λ r. ⌜ r ≡ mark-length self ⌝ }
-        ensures bound { λ r. ⌜ 4 ≤ r ⌝ }
+        ensures value { result ≡ mark-length self }
+        ensures bound { 4 ≤ result }
     {
         match self {
             Mark::Day => 10,

@@ -1,6 +1,6 @@
 // The six kinds of record that a book holds, as values.
-ghost use mathlib.Core.Path.{_≡_};
-ghost use Rattle·dayfile·specs.Classes.{class-number, class-of};
+ghost use Rattle.std.specs.Prelude.{◌≡◌};
+ghost use Rattle.dayfile.specs.Classes.{class-number, class_of};
 
 // What a position stands for: energy that is put into the system (generation, import) or taken out of it (load, export).
 #[derive(Clone, Copy)]
@@ -14,7 +14,7 @@ pub enum Class {
 impl Class {
     // The number that the day file has for the class.
     pub fn number(self) -> u8
-        ensures { λ r. ⌜ r ≡ class-number self ⌝ }
+        ensures { result ≡ class-number self }
     {
         match self {
             Class::Generation => 1,
@@ -26,7 +26,7 @@ impl Class {
 
     // The class with this number, if there is one.
     pub fn from_number(number: u8) -> Option<Class>
-        ensures { λ r. ⌜ r ≡ class-of number ⌝ }
+        ensures { result ≡ class_of number }
     {
         match number {
             1 => Some(Class::Generation),

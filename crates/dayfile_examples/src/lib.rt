@@ -3,15 +3,10 @@
 mod tests {
     use cutting::reader::Reader;
     use dayfile::heading::Heading;
-    use dayfile::record::Failure;
-    use dayfile::record::Record;
-    use dayfile_encode::encode_end;
-    use dayfile_encode::encode_failure;
-    use dayfile_encode::encode_heading;
-    use decoding::decode::decode_end;
-    use decoding::decode::decode_heading;
-    use decoding::decode::decode_record;
-    use std::test::*;
+    use dayfile::record::{Failure, Record};
+    use dayfile_encode::{encode_end, encode_failure, encode_heading};
+    use decoding::decode::{decode_end, decode_heading, decode_record};
+    use std::test::Fail;
 
     // 2019-03-05 with 24 hours, 3 accounts, 1 node and 1 interconnection.
     const HEADING: [u8; 10] = *b"DY\x07\xe3\x03\x05\x18\x03\x01\x01";
@@ -49,79 +44,86 @@ mod tests {
     }
 
     #[test]
-    fn short_records() -> Result<(), Fail> {
-        check_eq(heading_refused(b""), 2)?;
-        check_eq(heading_refused(b"D"), 2)?;
-        check_eq(heading_refused(b"dy"), 2)?;
-        check_eq(heading_refused(b"DY\x07\xe3\x03"), 3)?;
-        check_eq(record_refused(b"MU"), 3)
+    fn short_records(rt: HostRuntime) {
+        assert_eq!(rt; heading_refused(b""), 2);
+        assert_eq!(rt; heading_refused(b"D"), 2);
+        assert_eq!(rt; heading_refused(b"dy"), 2);
+        assert_eq!(rt; heading_refused(b"DY\x07\xe3\x03"), 3);
+        assert_eq!(rt; record_refused(b"MU"), 3);
     }
 
     #[test]
-    fn marks_of_other_calls() -> Result<(), Fail> {
+    fn marks_of_other_calls(rt: HostRuntime) -> Result<(), Fail> {
         let failure = encode_failure(Failure { unit: 1, kind: 2 });
         let end = encode_end(513);
-        check_eq(heading_refused(&failure), 4)?;
-        check_eq(record_refused(&failure), 0)?;
-        check_eq(record_refused(&end), 4)?;
-        check_eq(heading_refused(&HEADING), 0)?;
-        check_eq(record_refused(&HEADING), 4)?;
+        assert_eq!(rt; heading_refused(&failure), 4);
+        assert_eq!(rt; record_refused(&failure), 0);
+        assert_eq!(rt; record_refused(&end), 4);
+        assert_eq!(rt; heading_refused(&HEADING), 0);
+        assert_eq!(rt; record_refused(&HEADING), 4);
         match decode_end(&end) {
-            Ok(count) => check_eq(count, 513),
+            Ok(count) => {
+                assert_eq!(rt; count, 513);
+                Ok(())
+            },
             Err(_) => Err(Fail::new("an end record was refused")),
         }
     }
 
     #[test]
-    fn dates() -> Result<(), Fail> {
-        check(is_date(2024, 2, 29))?;
-        check(!is_date(2023, 2, 29))?;
-        check(is_date(2096, 2, 29))?;
-        check(!is_date(2100, 2, 28))?;
-        check(!is_date(2015, 12, 31))?;
-        check(!is_date(2019, 4, 31))?;
-        check(!is_date(2019, 13, 1))
+    fn dates(rt: HostRuntime) {
+        assert!(rt; is_date(2024, 2, 29));
+        assert!(rt; !is_date(2023, 2, 29));
+        assert!(rt; is_date(2096, 2, 29));
+        assert!(rt; !is_date(2100, 2, 28));
+        assert!(rt; !is_date(2015, 12, 31));
+        assert!(rt; !is_date(2019, 4, 31));
+        assert!(rt; !is_date(2019, 13, 1));
     }
 
     #[test]
-    fn hours() -> Result<(), Fail> {
-        check(!has_hours(22))?;
-        check(has_hours(23))?;
-        check(has_hours(25))?;
-        check(!has_hours(26))
+    fn hours(rt: HostRuntime) {
+        assert!(rt; !has_hours(22));
+        assert!(rt; has_hours(23));
+        assert!(rt; has_hours(25));
+        assert!(rt; !has_hours(26));
     }
 
     #[test]
-    fn heading_comes_back() -> Result<(), Fail> {
+    fn heading_comes_back(rt: HostRuntime) -> Result<(), Fail> {
         match Heading::new(2019, 3, 5, 24, 3, 1, 1) {
-            Some(heading) => check(encode_heading(heading) == HEADING),
+            Some(heading) => {
+                assert!(rt; encode_heading(heading) == HEADING);
+                Ok(())
+            },
             None => Err(Fail::new("a real heading was refused")),
         }
     }
 
     #[test]
-    fn a_whole_file() -> Result<(), Fail> {
+    fn a_whole_file(rt: HostRuntime) -> Result<(), Fail> {
         let mut reader = Reader::new(&FILE);
-        check_eq(part_length(&mut reader), 10)?;
+        assert_eq!(rt; part_length(&mut reader), 10);
         match reader.next() {
             Ok(part) => match decode_record(part) {
                 Ok(Record::Price(price)) => {
-                    check_eq(price.hour, 7)?;
-                    check_eq(price.day_ahead, 50000)?;
-                    check_eq(price.real_time, -1)?;
+                    assert_eq!(rt; price.hour, 7);
+                    assert_eq!(rt; price.day_ahead, 50000);
+                    assert_eq!(rt; price.real_time, -1);
                 }
                 _ => return Err(Fail::new("a price was expected")),
             },
             Err(_) => return Err(Fail::new("a record was expected")),
         }
-        check(!reader.at_end())?;
-        check_eq(part_length(&mut reader), 4)?;
-        check(reader.at_end())?;
+        assert!(rt; !reader.at_end());
+        assert_eq!(rt; part_length(&mut reader), 4);
+        assert!(rt; reader.at_end());
         match reader.next() {
             Ok(_) => Err(Fail::new("the file was at its end")),
             Err(fault) => {
-                check_eq(fault.number(), 2)?;
-                check_eq(fault.place.offset, 26)
+                assert_eq!(rt; fault.number(), 2);
+                assert_eq!(rt; fault.place.offset, 26);
+                Ok(())
             }
         }
     }
@@ -135,15 +137,16 @@ mod tests {
     }
 
     #[test]
-    fn a_file_cut_short() -> Result<(), Fail> {
+    fn a_file_cut_short(rt: HostRuntime) -> Result<(), Fail> {
         let mut reader = Reader::new(&CUT_SHORT);
-        check_eq(part_length(&mut reader), 10)?;
+        assert_eq!(rt; part_length(&mut reader), 10);
         match reader.next() {
             Ok(_) => Err(Fail::new("the record is not whole")),
             Err(fault) => {
-                check_eq(fault.number(), 3)?;
-                check_eq(fault.place.offset, 10)?;
-                check_eq(reader.offset(), 10)
+                assert_eq!(rt; fault.number(), 3);
+                assert_eq!(rt; fault.place.offset, 10);
+                assert_eq!(rt; reader.offset(), 10);
+                Ok(())
             }
         }
     }

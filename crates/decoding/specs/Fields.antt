@@ -1,32 +1,28 @@
 -- What the bytes of a record say, field by field. Numbers stand with their highest byte first.
-use Prim.Native.Nat.{ℕ, _+_, _*_}
-use mathlib.Core.List.{List}
-use lib.IntN.{ℤ}
-use lib.ListN.{getD}
-use mir.Syntax.{w32}
-use mir.Val.{toZ}
-use Rattle·std.specs.Options.{mapped}
-use Rattle·std.specs.declared.option.Option.{Option}
-use Rattle·dayfile.specs.Classes.{class-of}
-use Rattle·dayfile.specs.Headings.{heading-of}
-use Rattle·dayfile.specs.declared.heading.Heading.{Heading}
-use Rattle·dayfile.specs.declared.record.Failure.{Failure}
-use Rattle·dayfile.specs.declared.record.Fine.{Fine}
-use Rattle·dayfile.specs.declared.record.Interconnection.{Interconnection}
-use Rattle·dayfile.specs.declared.record.Position.{Position}
-use Rattle·dayfile.specs.declared.record.Price.{Price}
-use Rattle·dayfile.specs.declared.record.Reserve.{Reserve}
+use Rattle.std.specs.Prelude.{ℕ, ◌+◌, ◌*◌, List, ℤ, Option, slice_index}
+use Rattle.std.specs.Int.{w32}
+use Rattle.std.proofs.Common.{to_z}
+use Rattle.std.specs.Option.{option_map}
+use Rattle.dayfile.specs.Classes.{class_of}
+use Rattle.dayfile.specs.Headings.{heading-of}
+use Rattle.dayfile.specs.declared.heading.Heading.{Heading}
+use Rattle.dayfile.specs.declared.record.Failure.{Failure}
+use Rattle.dayfile.specs.declared.record.Fine.{Fine}
+use Rattle.dayfile.specs.declared.record.Interconnection.{Interconnection}
+use Rattle.dayfile.specs.declared.record.Position.{Position}
+use Rattle.dayfile.specs.declared.record.Price.{Price}
+use Rattle.dayfile.specs.declared.record.Reserve.{Reserve}
 
 -- the byte at an index, the first at 0
 abbrev pub byte : List ℕ → ℕ → ℕ
-byte bytes i = getD bytes i 0
+byte bytes i = slice_index bytes i
 
 -- the number in the two, four or eight bytes from an index on
-abbrev pub two-bytes : List ℕ → ℕ → ℕ
-two-bytes bytes i = byte bytes i * 256 + byte bytes (i + 1)
+abbrev pub two_bytes : List ℕ → ℕ → ℕ
+two_bytes bytes i = byte bytes i * 256 + byte bytes (i + 1)
 
-abbrev pub four-bytes : List ℕ → ℕ → ℕ
-four-bytes bytes i = byte bytes i * 16777216 + byte bytes (i + 1) * 65536 + byte bytes (i + 2) * 256 + byte bytes (i + 3)
+abbrev pub four_bytes : List ℕ → ℕ → ℕ
+four_bytes bytes i = byte bytes i * 16777216 + byte bytes (i + 1) * 65536 + byte bytes (i + 2) * 256 + byte bytes (i + 3)
 
 abbrev pub eight-bytes : List ℕ → ℕ → ℕ
 eight-bytes bytes i =
@@ -35,20 +31,20 @@ eight-bytes bytes i =
 
 -- the number in four bytes by two's complement
 abbrev pub signed-four-bytes : List ℕ → ℕ → ℤ
-signed-four-bytes bytes i = toZ w32 (four-bytes bytes i)
+signed-four-bytes bytes i = to_z w32 (four_bytes bytes i)
 
 -- none where the fields are not those of a real heading
 abbrev pub heading-in : List ℕ → Option Heading
-heading-in bytes = heading-of (two-bytes bytes 2) (byte bytes 4) (byte bytes 5) (byte bytes 6) (byte bytes 7) (byte bytes 8) (byte bytes 9)
+heading-in bytes = heading-of (two_bytes bytes 2) (byte bytes 4) (byte bytes 5) (byte bytes 6) (byte bytes 7) (byte bytes 8) (byte bytes 9)
 
 abbrev pub price-in : List ℕ → Price
-price-in bytes = record { node = byte bytes 2; hour = byte bytes 3; «day_ahead» = signed-four-bytes bytes 4; «real_time» = signed-four-bytes bytes 8 }
+price-in bytes = record { node = byte bytes 2; hour = byte bytes 3; day_ahead = signed-four-bytes bytes 4; real_time = signed-four-bytes bytes 8 }
 
 -- none where no class has the number
-abbrev pub position-in : List ℕ → Option Position
-position-in bytes = mapped
-    (λ class. record { account = byte bytes 2; node = byte bytes 3; hour = byte bytes 4; class = class; «day_ahead» = four-bytes bytes 6; «real_time» = four-bytes bytes 10 })
-    (class-of (byte bytes 5))
+abbrev pub position_in : List ℕ → Option Position
+position_in bytes = option_map
+    (λ class. record { account = byte bytes 2; node = byte bytes 3; hour = byte bytes 4; class = class; day_ahead = four_bytes bytes 6; real_time = four_bytes bytes 10 })
+    (class_of (byte bytes 5))
 
 abbrev pub interconnection-in : List ℕ → Interconnection
 interconnection-in bytes = record {
@@ -56,11 +52,11 @@ interconnection-in bytes = record {
   system = byte bytes 3;
   node = byte bytes 4;
   hour = byte bytes 5;
-  «day_ahead_export» = four-bytes bytes 6;
-  «day_ahead_import» = four-bytes bytes 10;
-  «real_time_export» = four-bytes bytes 14;
-  «real_time_import» = four-bytes bytes 18;
-  «imbalance_price» = signed-four-bytes bytes 22;
+  day_ahead_export = four_bytes bytes 6;
+  day_ahead_import = four_bytes bytes 10;
+  real_time_export = four_bytes bytes 14;
+  real_time_import = four_bytes bytes 18;
+  imbalance_price = signed-four-bytes bytes 22;
 }
 
 abbrev pub reserve-in : List ℕ → Reserve
@@ -69,14 +65,14 @@ reserve-in bytes = record {
   unit = byte bytes 3;
   kind = byte bytes 4;
   hour = byte bytes 5;
-  «day_ahead_price» = four-bytes bytes 6;
-  «day_ahead» = four-bytes bytes 10;
-  «real_time_price» = four-bytes bytes 14;
-  «real_time» = four-bytes bytes 18;
+  day_ahead_price = four_bytes bytes 6;
+  day_ahead = four_bytes bytes 10;
+  real_time_price = four_bytes bytes 14;
+  real_time = four_bytes bytes 18;
 }
 
 abbrev pub failure-in : List ℕ → Failure
 failure-in bytes = record { unit = byte bytes 2; kind = byte bytes 3 }
 
 abbrev pub fine-in : List ℕ → Fine
-fine-in bytes = record { identifier = four-bytes bytes 2; account = byte bytes 6; centavos = eight-bytes bytes 7 }
+fine-in bytes = record { identifier = four_bytes bytes 2; account = byte bytes 6; centavos = eight-bytes bytes 7 }

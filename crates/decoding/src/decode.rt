@@ -1,21 +1,19 @@
 // From the bytes of one record to what they say.
-ghost use mathlib.Core.Path.{_≡_};
-ghost use lib.ListN.{length};
-ghost use Rattle·std.specs.Vec.{made};
-ghost use Rattle·dayfile.specs.Marks.{mark-length};
-ghost use Rattle·decoding·specs.Decoded.{decoded-end, decoded-heading, decoded-record, place-of, whole-mark};
+ghost use Rattle.std.specs.Prelude.{◌≡◌, length, IfOk};
+ghost use Rattle.dayfile.specs.Marks.{mark-length};
+ghost use Rattle.decoding.specs.Decoded.{decoded-end, decoded-heading, decoded-record, place_of, whole-mark};
+
 use crate::fields;
 use dayfile::heading::Heading;
 use dayfile::mark::Mark;
 use dayfile::record::Record;
-use faults::fault::Fault;
-use faults::fault::Place;
+use faults::fault::{Fault, Place};
 use faults::refusal::Refusal;
 
 // The mark of a record that is as long as its mark says.
 fn mark_of(bytes: &[u8]) -> Result<Mark, Fault>
-    ensures value { λ r. ⌜ r ≡ whole-mark (now (bytes .entry)) ⌝ }
-    ensures whole { λ r. ⌜ made r (λ m. length (now (bytes .entry)) ≡ mark-length m) ⌝ }
+    ensures value { result ≡ whole-mark bytes.now }
+    ensures whole { IfOk result (λ m. length bytes.now ≡ mark-length m) }
 {
     let [first, second, ..] = bytes else {
         return Err(Fault::plain(Refusal::UnknownMark));
@@ -31,7 +29,7 @@ fn mark_of(bytes: &[u8]) -> Result<Mark, Fault>
 
 // The heading of a day, as it opens its file.
 pub fn decode_heading(bytes: &[u8]) -> Result<Heading, Fault>
-    ensures { λ r. ⌜ r ≡ decoded-heading (now (bytes .entry)) ⌝ }
+    ensures { result ≡ decoded-heading bytes.now }
 {
     match mark_of(bytes) {
         Ok(Mark::Day) => fields::heading(bytes).ok_or(Fault::plain(Refusal::OutOfRange)),
@@ -42,7 +40,7 @@ pub fn decode_heading(bytes: &[u8]) -> Result<Heading, Fault>
 
 // A record of one of the six kinds that a book takes. Its fields may still be out of range.
 pub fn decode_record(bytes: &[u8]) -> Result<Record, Fault>
-    ensures { λ r. ⌜ r ≡ decoded-record (now (bytes .entry)) ⌝ }
+    ensures { result ≡ decoded-record bytes.now }
 {
     match mark_of(bytes) {
         Ok(Mark::Price) => Ok(Record::Price(fields::price(bytes))),
@@ -61,7 +59,7 @@ pub fn decode_record(bytes: &[u8]) -> Result<Record, Fault>
 
 // The count of records before the end record.
 pub fn decode_end(bytes: &[u8]) -> Result<u16, Fault>
-    ensures { λ r. ⌜ r ≡ decoded-end (now (bytes .entry)) ⌝ }
+    ensures { result ≡ decoded-end bytes.now }
 {
     match mark_of(bytes) {
         Ok(Mark::End) => Ok(fields::count(bytes)),
@@ -72,7 +70,7 @@ pub fn decode_end(bytes: &[u8]) -> Result<u16, Fault>
 
 // The account, node and hour that a record names; 0 for those that its kind has none of.
 pub fn place_of(row: &Record) -> Place
-    ensures { λ r. ⌜ r ≡ place-of (now (row .entry)) ⌝ }
+    ensures { result ≡ place_of row.now }
 {
     match row {
         Record::Price(price) => Place::new(0, price.node, price.hour),

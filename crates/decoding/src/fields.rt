@@ -1,27 +1,19 @@
 // The fields of each kind of record, taken apart. Every function here is given a record of the length that its mark has.
-ghost use mathlib.Core.Path.{_≡_};
-ghost use Prim.Native.Nat.{_+_, _≤_};
-ghost use lib.ListN.{drop, length};
-ghost use Rattle·decoding·specs.Decoded.{position-or-fault};
-ghost use Rattle·decoding·specs.Fields.{failure-in, fine-in, four-bytes, heading-in, interconnection-in, price-in, reserve-in, signed-four-bytes, two-bytes};
+ghost use Rattle.std.specs.Prelude.{◌≡◌, ◌+◌, ◌≤◌, length, drop};
+ghost use Rattle.decoding.specs.Decoded.{position-or-fault};
+ghost use Rattle.decoding.specs.Fields.{failure-in, fine-in, four_bytes, heading-in, interconnection-in, price-in, reserve-in, signed-four-bytes, two_bytes};
+
 use dayfile::heading::Heading;
-use dayfile::record::Class;
-use dayfile::record::Failure;
-use dayfile::record::Fine;
-use dayfile::record::Interconnection;
-use dayfile::record::Position;
-use dayfile::record::Price;
-use dayfile::record::Reserve;
-use faults::fault::Fault;
-use faults::fault::Place;
+use dayfile::record::{Class, Failure, Fine, Interconnection, Position, Price, Reserve};
+use faults::fault::{Fault, Place};
 use faults::refusal::Refusal;
 
 // The number in the first four bytes, and the bytes after them.
 fn number(bytes: &[u8]) -> (u32, &[u8])
-    requires { ⌜ 4 ≤ length (now bytes) ⌝ }
-    ensures value { λ r. ⌜ r .0 ≡ four-bytes (now (bytes .entry)) 0 ⌝ }
-    ensures rest { λ r. ⌜ now (r .1) ≡ drop 4 (now (bytes .entry)) ⌝ }
-    ensures left { λ r. ⌜ length (now (r .1)) + 4 ≡ length (now (bytes .entry)) ⌝ }
+    requires { 4 ≤ length bytes.now }
+    ensures value { result.0 ≡ four_bytes bytes.now 0 }
+    ensures rest { result.1.now ≡ drop 4 bytes.now }
+    ensures left { length result.1.now + 4 ≡ length bytes.now }
 {
     let [b3, b2, b1, b0, rest @ ..] = bytes else {
         unreachable()
@@ -31,10 +23,10 @@ fn number(bytes: &[u8]) -> (u32, &[u8])
 
 // The same of a signed number.
 fn signed_number(bytes: &[u8]) -> (i32, &[u8])
-    requires { ⌜ 4 ≤ length (now bytes) ⌝ }
-    ensures value { λ r. ⌜ r .0 ≡ signed-four-bytes (now (bytes .entry)) 0 ⌝ }
-    ensures rest { λ r. ⌜ now (r .1) ≡ drop 4 (now (bytes .entry)) ⌝ }
-    ensures left { λ r. ⌜ length (now (r .1)) + 4 ≡ length (now (bytes .entry)) ⌝ }
+    requires { 4 ≤ length bytes.now }
+    ensures value { result.0 ≡ signed-four-bytes bytes.now 0 }
+    ensures rest { result.1.now ≡ drop 4 bytes.now }
+    ensures left { length result.1.now + 4 ≡ length bytes.now }
 {
     let [b3, b2, b1, b0, rest @ ..] = bytes else {
         unreachable()
@@ -43,8 +35,8 @@ fn signed_number(bytes: &[u8]) -> (i32, &[u8])
 }
 
 pub fn heading(bytes: &[u8]) -> Option<Heading>
-    requires { ⌜ length (now bytes) ≡ 10 ⌝ }
-    ensures { λ r. ⌜ r ≡ heading-in (now (bytes .entry)) ⌝ }
+    requires { length bytes.now ≡ 10 }
+    ensures { result ≡ heading-in bytes.now }
 {
     let [_, _, y1, y0, month, day, rest @ ..] = bytes else {
         unreachable()
@@ -65,8 +57,8 @@ pub fn heading(bytes: &[u8]) -> Option<Heading>
 }
 
 pub fn price(bytes: &[u8]) -> Price
-    requires { ⌜ length (now bytes) ≡ 12 ⌝ }
-    ensures { λ r. ⌜ r ≡ price-in (now (bytes .entry)) ⌝ }
+    requires { length bytes.now ≡ 12 }
+    ensures { result ≡ price-in bytes.now }
 {
     let [_, _, node, hour, rest @ ..] = bytes else {
         unreachable()
@@ -82,8 +74,8 @@ pub fn price(bytes: &[u8]) -> Price
 }
 
 pub fn position(bytes: &[u8]) -> Result<Position, Fault>
-    requires { ⌜ length (now bytes) ≡ 14 ⌝ }
-    ensures { λ r. ⌜ r ≡ position-or-fault (now (bytes .entry)) ⌝ }
+    requires { length bytes.now ≡ 14 }
+    ensures { result ≡ position-or-fault bytes.now }
 {
     let [_, _, account, node, hour, class, rest @ ..] = bytes else {
         unreachable()
@@ -104,8 +96,8 @@ pub fn position(bytes: &[u8]) -> Result<Position, Fault>
 }
 
 pub fn interconnection(bytes: &[u8]) -> Interconnection
-    requires { ⌜ length (now bytes) ≡ 26 ⌝ }
-    ensures { λ r. ⌜ r ≡ interconnection-in (now (bytes .entry)) ⌝ }
+    requires { length bytes.now ≡ 26 }
+    ensures { result ≡ interconnection-in bytes.now }
 {
     let [_, _, interconnection, system, node, hour, rest @ ..] = bytes else {
         unreachable()
@@ -129,8 +121,8 @@ pub fn interconnection(bytes: &[u8]) -> Interconnection
 }
 
 pub fn reserve(bytes: &[u8]) -> Reserve
-    requires { ⌜ length (now bytes) ≡ 22 ⌝ }
-    ensures { λ r. ⌜ r ≡ reserve-in (now (bytes .entry)) ⌝ }
+    requires { length bytes.now ≡ 22 }
+    ensures { result ≡ reserve-in bytes.now }
 {
     let [_, _, account, unit, kind, hour, rest @ ..] = bytes else {
         unreachable()
@@ -152,8 +144,8 @@ pub fn reserve(bytes: &[u8]) -> Reserve
 }
 
 pub fn failure(bytes: &[u8]) -> Failure
-    requires { ⌜ length (now bytes) ≡ 4 ⌝ }
-    ensures { λ r. ⌜ r ≡ failure-in (now (bytes .entry)) ⌝ }
+    requires { length bytes.now ≡ 4 }
+    ensures { result ≡ failure-in bytes.now }
 {
     let [_, _, unit, kind] = bytes else {
         unreachable()
@@ -165,8 +157,8 @@ pub fn failure(bytes: &[u8]) -> Failure
 }
 
 pub fn fine(bytes: &[u8]) -> Fine
-    requires { ⌜ length (now bytes) ≡ 15 ⌝ }
-    ensures { λ r. ⌜ r ≡ fine-in (now (bytes .entry)) ⌝ }
+    requires { length bytes.now ≡ 15 }
+    ensures { result ≡ fine-in bytes.now }
 {
     let [_, _, i3, i2, i1, i0, account, rest @ ..] = bytes else {
         unreachable()
@@ -183,8 +175,8 @@ pub fn fine(bytes: &[u8]) -> Fine
 
 // The count of an end record.
 pub fn count(bytes: &[u8]) -> u16
-    requires { ⌜ length (now bytes) ≡ 4 ⌝ }
-    ensures { λ r. ⌜ r ≡ two-bytes (now (bytes .entry)) 2 ⌝ }
+    requires { length bytes.now ≡ 4 }
+    ensures { result ≡ two_bytes bytes.now 2 }
 {
     let [_, _, high, low] = bytes else {
         unreachable()

@@ -1,10 +1,10 @@
 -- The number and the layer of every reason of refusal.
 -- Assumes nothing.
-use Prim.Native.Nat.{ℕ}
-use Rattle·faults·specs.declared.refusal.Layer.{Layer}
-use Rattle·faults·specs.declared.refusal.Layer.the-variants.{File, Book, Settlement, Issue, Rule}
-use Rattle·faults·specs.declared.refusal.Refusal.{Refusal}
-use Rattle·faults·specs.declared.refusal.Refusal.the-variants.{UnsoundMemory, UnknownMark, WrongLength, UnexpectedMark, OutOfRange, AboveHeading, KeyTaken, TableFull, WrongCount, NoPrice, NoPurchases, NoPosition, LedgerFull, NoIssueLeft, BufferTooShort, NotShareable}
+use Rattle.std.specs.Prelude.{ℕ}
+use Rattle.faults.specs.declared.refusal.Layer.{Layer}
+use Rattle.faults.specs.declared.refusal.Layer.TheVariants.{File, Book, Settlement, Issue, Rule}
+use Rattle.faults.specs.declared.refusal.Refusal.{Refusal}
+use Rattle.faults.specs.declared.refusal.Refusal.TheVariants.{UnsoundMemory, UnknownMark, WrongLength, UnexpectedMark, OutOfRange, AboveHeading, KeyTaken, TableFull, WrongCount, NoPrice, NoPurchases, NoPosition, LedgerFull, NoIssueLeft, BufferTooShort, NotShareable}
 
 abbrev pub refusal-number : Refusal → ℕ
 refusal-number UnsoundMemory = 1

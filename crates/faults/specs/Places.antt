@@ -1,9 +1,9 @@
 -- Places, and the faults that are made of them.
 -- Assumes nothing.
-use Prim.Native.Nat.{ℕ}
-use Rattle·faults·specs.declared.fault.Fault.{Fault}
-use Rattle·faults·specs.declared.fault.Place.{Place}
-use Rattle·faults·specs.declared.refusal.Refusal.{Refusal}
+use Rattle.std.specs.Prelude.{ℕ}
+use Rattle.faults.specs.declared.fault.Fault.{Fault}
+use Rattle.faults.specs.declared.fault.Place.{Place}
+use Rattle.faults.specs.declared.refusal.Refusal.{Refusal}
 
 -- the account, node and hour that a record or a call names, and no offset
 abbrev pub at : ℕ → ℕ → ℕ → Place
@@ -23,4 +23,4 @@ plain reason = fault-of reason nowhere
 -- the same fault, of a record that begins at the offset
 abbrev pub reading-at : ℕ → Fault → Fault
 reading-at offset f =
-    record { refusal = f .refusal; place = record { offset = offset; account = f .place .account; node = f .place .node; hour = f .place .hour } }
+    record { refusal = f.refusal; place = record { offset = offset; account = f.place.account; node = f.place.node; hour = f.place.hour } }

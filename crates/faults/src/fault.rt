@@ -1,11 +1,9 @@
 // What a refused call answers: the reason, and the place that it is about.
-ghost use mathlib.Core.Path.{_≡_};
-ghost use Rattle·faults·specs.Numbers.{refusal-layer, refusal-number};
-ghost use Rattle·faults·specs.Places.{at, fault-of, nowhere, plain, reading-at};
-use crate::refusal::Layer;
-use crate::refusal::Refusal;
-use crate::refusal::RefusalDebug;
-use crate::refusal::RefusalPartialEq;
+ghost use Rattle.std.specs.Prelude.{◌≡◌};
+ghost use Rattle.faults.specs.Numbers.{refusal-layer, refusal-number};
+ghost use Rattle.faults.specs.Places.{at, fault-of, nowhere, plain, reading-at};
+
+use crate::refusal::{Layer, Refusal};
 
 // Where a refused record stands in a file, and the account, node and hour that it names; 0 for what there is none of.
 #[derive(Clone, Copy, PartialEq, Eq, Debug)]
@@ -25,7 +23,7 @@ pub struct Fault {
 impl Place {
     // No place.
     pub fn none() -> Self
-        ensures { λ r. ⌜ r ≡ nowhere ⌝ }
+        ensures { result ≡ nowhere }
     {
         Place {
             offset: 0,
@@ -37,7 +35,7 @@ impl Place {
 
     // The account, node and hour of a record or a call.
     pub fn new(account: u8, node: u8, hour: u8) -> Self
-        ensures { λ r. ⌜ r ≡ at account node hour ⌝ }
+        ensures { result ≡ at account node hour }
     {
         Place {
             offset: 0,
@@ -50,14 +48,14 @@ impl Place {
 
 impl Fault {
     pub fn new(refusal: Refusal, place: Place) -> Self
-        ensures { λ r. ⌜ r ≡ fault-of refusal place ⌝ }
+        ensures { result ≡ fault-of refusal place }
     {
         Fault { refusal, place }
     }
 
     // A fault that names no place.
     pub fn plain(refusal: Refusal) -> Self
-        ensures { λ r. ⌜ r ≡ plain refusal ⌝ }
+        ensures { result ≡ plain refusal }
     {
         Fault {
             refusal,
@@ -67,20 +65,20 @@ impl Fault {
 
     // The number by which the market's documents know the reason.
     pub fn number(&self) -> u8
-        ensures { λ r. ⌜ r ≡ refusal-number (now (self .entry) .refusal) ⌝ }
+        ensures { result ≡ refusal-number self.now.refusal }
     {
         self.refusal.number()
     }
 
     pub fn layer(&self) -> Layer
-        ensures { λ r. ⌜ r ≡ refusal-layer (now (self .entry) .refusal) ⌝ }
+        ensures { result ≡ refusal-layer self.now.refusal }
     {
         self.refusal.layer()
     }
 
     // The same fault, of a record that stands at the offset.
     pub fn at_offset(self, offset: usize) -> Self
-        ensures { λ r. ⌜ r ≡ reading-at offset self ⌝ }
+        ensures { result ≡ reading-at offset self }
     {
         let mut place = self.place;
         place.offset = offset;

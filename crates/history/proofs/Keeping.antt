@@ -1,81 +1,68 @@
 -- Each call keeps what a history keeps.
-use mathlib.Core.Bool.{Bool, true, false, cond}
-use mathlib.Core.List.{List, [], _∷_, _++_}
-use mathlib.Core.Logic.{_⊎_, inl, inr}
-use mathlib.Core.Path.{_≡_, refl, sym, ap, subst, _∙_}
-use Prim.Native.Nat.{ℕ, _+_, _-_, _/_, _<_, _≤_}
-use native.Mathlib.Omega.{arith}
-use native.Mathlib.Nat.{add-zero}
-use lib.Dec.{leb}
-use lib.IntN.{ℤ, natAbs, pos, _+ℤ_, _-ℤ_}
-use lib.ListN.{drop, getD, length, length-append, length-take, take}
-use Rattle·std.proofs.shelf.Lists.{getD-append-left, getD-push, joined-more}
-use Rattle·std.proofs.shelf.Signed.{ints}
-use Rattle·std.proofs.shelf.Tests.{and-from, cases-lt, le-leb}
-use Rattle·std.specs.Joined.{joined}
-use Rattle·std.specs.declared.option.Option.{Option}
-use Rattle·std.specs.declared.option.Option.the-variants.{None, Some}
-use Rattle·std.specs.declared.result.Result.{Result}
-use Rattle·std.specs.declared.result.Result.the-variants.{Err, Ok}
-use Rattle·faults.specs.Places.{plain}
-use Rattle·faults.specs.declared.fault.Fault.{Fault}
-use Rattle·faults.specs.declared.refusal.Refusal.{Refusal}
-use Rattle·faults.specs.declared.refusal.Refusal.the-variants.{LedgerFull, NoIssueLeft, UnsoundMemory}
-use Rattle·decoding.specs.Decoded.{and-then, decoded-record, place-of}
-use Rattle·dayfile.specs.Records.{Records}
-use Rattle·dayfile.specs.declared.heading.Heading.{Heading}
-use Rattle·dayfile.specs.declared.record.Record.{Record}
-use Rattle·dayfile.specs.declared.record.Record.the-variants.{Failure, Fine, Interconnection, Position, Price, Reserve}
-use Rattle·book.specs.Books.{admission, admitted, counts-of, entered, no-records, record-refusal, unless, with-record}
-use Rattle·correcting.specs.Readings.{corrected, correction, correction-refusal, reading-place, with-reading}
-use Rattle·book.specs.Soundness.{sound-records}
-use Rattle·correcting.specs.declared.reading.Reading.{Reading}
-use Rattle·book.proofs.Keeps.{entering-keeps-sound}
-use Rattle·correcting.proofs.Corrected.{correcting-keeps-sound}
-use Rattle·codes.specs.Cells.{cell, empty-cells}
-use Rattle·codes.specs.Sums.{sum-over, total}
-use Rattle·codes.specs.declared.code.Code.{Code}
-use Rattle·codes.specs.declared.table.Table.{Table}
-use Rattle·ledger.specs.Issues.{earlier, issue-answer, issue-leaves, new-notes, noted}
-use Rattle·ledger.specs.Laws.{balance}
-use Rattle·ledger.specs.Notes.{amount-limit, cleared, no-note, sound-list, sound-notes, within-limit}
-use Rattle·ledger.specs.declared.note.Note.{Note}
-use Rattle·ledger.proofs.Counting.{sum-++}
-use Rattle·ledger.proofs.Laws.{appended, balanced, borne, halves, kept-sound, reached}
-use Rattle·settlement.specs.Days.{day-cell, settle-refusal}
-use Rattle·settlement_laws.proofs.Balance.{cells-are-small}
-use Rattle·sharing.specs.Fair.{Fair}
-use Rattle·text.specs.Written.{written}
-use Rattle·day.specs.Calls.{Parts, fault-in, first-numbers, issue-refusal, made-before, notes-to-add, records-read, records-with, with-counts, with-notes}
-use Rattle·day.specs.IssueNumbers.{following, issue-number}
-use Rattle·day.specs.Memory.{Memory, begun-with, memory}
-use Rattle·day.specs.Tables.{table-of}
-use Rattle·day.specs.declared.issue_number.IssueNumber.{IssueNumber}
-use Rattle·day.specs.declared.issue_number.IssueNumber.the-variants.{FinalResettlement, Initial, InitialResettlement, IntermediateResettlement}
-use Rattle·day.specs.declared.state.Closed as closed-state
-use Rattle·day.specs.declared.state.Issued as issued-state
-use Rattle·day.specs.declared.state.Numbers.{Numbers}
-use Rattle·day.specs.declared.state.Open as open-state
-use Rattle·day.specs.declared.state.Settled as settled-state
-use Rattle·history·specs.Events.{Event, Settlement, Summary, all-notes, begun, none-yet, settled-by, summed}
-use Rattle·history·specs.Events as event
-use Rattle·history·specs.Histories.{added-notes}
-use Rattle·history·specs.Laws.{Bear, Laws, Notes-reach-the-cell, Notes-stand-and-balance, Reach, Was-made}
-use Rattle·history·specs.States.{has-table, is-issued, issues-made, numbers-of}
-use Rattle·history·specs.declared.states.Day.{Day}
-use Rattle·history·specs.declared.states.Day.the-variants.{Closed, Issued, Open, Settled}
-use Rattle·history·proofs.Kept.{Accepted, Fills, Kept, Made-of, day-even, day-holds, day-small, day-within, empty-within, sheets-defined}
-use Rattle·history·proofs.Outcomes.{ok-not-err, some-not-none}
+use Rattle.std.proofs.Common.{◌≡◌, ℕ, ◌+◌, ◌-◌, ◌/◌, ◌<◌, ◌≤◌, Bool, true, false, cond, leb, ◌⊎◌, List, [], ◌∷◌, ◌++◌, length, get_or, take, drop, ℤ, pos, ◌+ℤ◌, ◌-ℤ◌, nat_abs, Some, None, Ok, Err, Option, Result, sym, refl, ap, ◌∙◌, subst, inl, inr, add-zero, arith, length-append, length-take}
+use Rattle.std.proofs.lemmas.List.{get_or_append_left, get_or_push, flat_map_more}
+use Rattle.std.proofs.lemmas.Int.{ints}
+use Rattle.std.proofs.lemmas.Bool.{and_from, cases_lt, le-leb}
+use Rattle.std.specs.List.{flat_map}
+use Rattle.faults.specs.Places.{plain}
+use Rattle.faults.specs.declared.fault.Fault.{Fault}
+use Rattle.faults.specs.declared.refusal.Refusal.{Refusal}
+use Rattle.faults.specs.declared.refusal.Refusal.TheVariants.{LedgerFull, NoIssueLeft, UnsoundMemory}
+use Rattle.decoding.specs.Decoded.{and_then, decoded-record, place_of}
+use Rattle.dayfile.specs.Records.{Records}
+use Rattle.dayfile.specs.declared.heading.Heading.{Heading}
+use Rattle.dayfile.specs.declared.record.Record.{Record}
+use Rattle.dayfile.specs.declared.record.Record.TheVariants.{Failure, Fine, Interconnection, Position, Price, Reserve}
+use Rattle.book.specs.Books.{admission, admitted, counts_of, entered, no-records, record-refusal, unless, with-record}
+use Rattle.correcting.specs.Readings.{corrected, correction, correction-refusal, reading-place, with-reading}
+use Rattle.book.specs.Soundness.{sound-records}
+use Rattle.correcting.specs.declared.reading.Reading.{Reading}
+use Rattle.book.proofs.Keeps.{entering-keeps-sound}
+use Rattle.correcting.proofs.Corrected.{correcting-keeps-sound}
+use Rattle.codes.specs.Cells.{cell, empty-cells}
+use Rattle.codes.specs.Sums.{sum_over, total}
+use Rattle.codes.specs.declared.code.Code.{Code}
+use Rattle.codes.specs.declared.table.Table.{Table}
+use Rattle.ledger.specs.Issues.{earlier, issue-answer, issue-leaves, new-notes, noted}
+use Rattle.ledger.specs.Laws.{balance}
+use Rattle.ledger.specs.Notes.{amount-limit, cleared, no_note, sound-list, sound-notes, within-limit}
+use Rattle.ledger.specs.declared.note.Note.{Note}
+use Rattle.ledger.proofs.Counting.{sum-++}
+use Rattle.ledger.proofs.Laws.{appended, balanced, borne, halves, kept-sound, reached}
+use Rattle.settlement.specs.Days.{day-cell, settle-refusal}
+use Rattle.settlement_laws.proofs.Balance.{cells-are-small}
+use Rattle.sharing.specs.Fair.{Fair}
+use Rattle.text.specs.Written.{written}
+use Rattle.day.specs.Calls.{Parts, fault-in, first-numbers, issue-refusal, made-before, notes-to-add, records-read, records-with, with-counts, with-notes}
+use Rattle.day.specs.IssueNumbers.{following, issue-number}
+use Rattle.day.specs.Memory.{Memory, begun-with, memory}
+use Rattle.day.specs.Tables.{table_of}
+use Rattle.day.specs.declared.issue_number.IssueNumber.{IssueNumber}
+use Rattle.day.specs.declared.issue_number.IssueNumber.TheVariants.{FinalResettlement, Initial, InitialResettlement, IntermediateResettlement}
+use Rattle.day.specs.declared.state.Closed as closed-state
+use Rattle.day.specs.declared.state.Issued as issued-state
+use Rattle.day.specs.declared.state.Numbers.{Numbers}
+use Rattle.day.specs.declared.state.Open as open-state
+use Rattle.day.specs.declared.state.Settled as settled-state
+use Rattle.history.specs.Events.{Event, Settlement, Summary, all-notes, begun, none_yet, settled-by, summed}
+use Rattle.history.specs.Events as event
+use Rattle.history.specs.Histories.{added-notes}
+use Rattle.history.specs.Laws.{Bear, Laws, Notes-reach-the-cell, Notes-stand-and-balance, Reach, Was-made}
+use Rattle.history.specs.States.{has-table, is-issued, issues-made, numbers_of}
+use Rattle.history.specs.declared.states.Day.{Day}
+use Rattle.history.specs.declared.states.Day.TheVariants.{Closed, Issued, Open, Settled}
+use Rattle.history.proofs.Kept.{Accepted, Fills, Kept, Made-of, day-even, day-holds, day-small, day-within, empty-within, sheets-defined}
+use Rattle.history.proofs.Outcomes.{ok-not-err, some-not-none}
 
-false-not-true : {X : Type 0} → _≡_ {A = Bool} false true → X
-false-not-true e = let z : _≡_ {A = ℕ} 0 1 = cc in absurd (omega arith)
+false-not-true : {X : Type 0} → ◌≡◌ {A = Bool} false true → X
+false-not-true e = let z : ◌≡◌ {A = ℕ} 0 1 = cc in absurd (omega arith)
 
 -- beginnings
 
-begun-kept : (r : Records) (led : List Note) (day : Day) → sound-records r ≡ true → numbers-of day ≡ first-numbers r → issues-made day ≡ 0 → has-table day ≡ false → is-issued day ≡ false
+begun_kept : (r : Records) (led : List Note) (day : Day) → sound-records r ≡ true → numbers_of day ≡ first-numbers r → issues-made day ≡ 0 → has-table day ≡ false → is-issued day ≡ false
     → Kept (begun r) day (begun-with r led)
-begun-kept r led day sound numbers none untabled unissued =
-    let no-notes : numbers-of day .notes ≡ 0 = ap (λ (n : Numbers). n .notes) numbers in
+begun_kept r led day sound numbers none untabled unissued =
+    let no-notes : (numbers_of day).notes ≡ 0 = ap (λ (n : Numbers). n.notes) numbers in
     record {
       laws = record {
         records-stand = refl;
@@ -90,71 +77,71 @@ begun-kept r led day sound numbers none untabled unissued =
         notes-reach-the-cell = record { reach = refl; one-made = λ is. false-not-true (sym unissued ∙ is) };
       };
       sound = sound;
-      heading = ap (λ (n : Numbers). n .heading) numbers;
-      counts = ap (λ (n : Numbers). n .counts) numbers;
+      heading = ap (λ (n : Numbers). n.heading) numbers;
+      counts = ap (λ (n : Numbers). n.counts) numbers;
       limited = empty-within (record { cells = empty-cells }) refl;
-      notes = ap (λ n. sound-notes (cleared led) n (issues-made day)) no-notes ∙ and-from (leb 0 (length (cleared led))) true (le-leb 0 (length (cleared led)) (omega arith)) refl;
+      notes = ap (λ n. sound-notes (cleared led) n (issues-made day)) no-notes ∙ and_from (leb 0 (length (cleared led))) true (le-leb 0 (length (cleared led)) (omega arith)) refl;
       balanced = refl;
       settlement = tt;
       last-issue = tt;
       table = λ tabled. false-not-true (sym untabled ∙ tabled);
     }
 
-pub open-kept : (r : Records) (led : List Note) → sound-records r ≡ true → Kept (begun r) (Open (record { numbers = first-numbers r })) (begun-with r led)
-open-kept r led sound = begun-kept r led (Open (record { numbers = first-numbers r })) sound refl refl refl refl
+pub open_kept : (r : Records) (led : List Note) → sound-records r ≡ true → Kept (begun r) (Open (record { numbers = first-numbers r })) (begun-with r led)
+open_kept r led sound = begun_kept r led (Open (record { numbers = first-numbers r })) sound refl refl refl refl
 
-pub load-kept : (r : Records) (led : List Note) → sound-records r ≡ true → Kept (begun r) (Closed (record { numbers = first-numbers r })) (begun-with r led)
-load-kept r led sound = begun-kept r led (Closed (record { numbers = first-numbers r })) sound refl refl refl refl
+pub load_kept : (r : Records) (led : List Note) → sound-records r ≡ true → Kept (begun r) (Closed (record { numbers = first-numbers r })) (begun-with r led)
+load_kept r led sound = begun_kept r led (Closed (record { numbers = first-numbers r })) sound refl refl refl refl
 
 -- what a call leaves alone that gives an open or a closed day, and issues nothing
-pub record Carried (s : Summary) (d : Day) (m : Memory) (s′ : Summary) (d′ : Day) (m′ : Memory) : Type 0 where
-  pub settlement : s′ .settlement ≡ s .settlement
-  pub last-issue : s′ .last-issue ≡ s .last-issue
-  pub issues : s′ .issues ≡ s .issues
-  pub table : m′ .table ≡ m .table
-  pub ledger : m′ .ledger ≡ m .ledger
-  pub notes : numbers-of d′ .notes ≡ numbers-of d .notes
-  pub made : issues-made d′ ≡ issues-made d
-  pub untabled : has-table d′ ≡ false
-  pub unissued : is-issued d′ ≡ false
+pub record Carried (s : Summary) (d : Day) (m : Memory) (s' : Summary) (d' : Day) (m' : Memory) : Type 0 where
+  pub settlement : s'.settlement ≡ s.settlement
+  pub last-issue : s'.last-issue ≡ s.last-issue
+  pub issues : s'.issues ≡ s.issues
+  pub table : m'.table ≡ m.table
+  pub ledger : m'.ledger ≡ m.ledger
+  pub notes : (numbers_of d').notes ≡ (numbers_of d).notes
+  pub made : issues-made d' ≡ issues-made d
+  pub untabled : has-table d' ≡ false
+  pub unissued : is-issued d' ≡ false
 
-carried : {s s′ : Summary} {d d′ : Day} {m m′ : Memory} → Kept s d m → Carried s d m s′ d′ m′ → m′ .records ≡ s′ .records → sound-records (m′ .records) ≡ true
-    → numbers-of d′ .heading ≡ m′ .records .heading → numbers-of d′ .counts ≡ counts-of (m′ .records) → Kept s′ d′ m′
-carried {s} {s′} {d} {d′} {m} {m′} k c stands sound heading counts =
-    let stood = k .laws .notes-stand-and-balance in
-    let joint = ap (joined (λ (notes : List Note). notes)) (c .issues) in
-    let every : (P : List (List Note) → Type 0) → P (s .issues) → P (s′ .issues) = λ P p. subst P (sym (c .issues)) p in
+carried : {s s' : Summary} {d d' : Day} {m m' : Memory} → Kept s d m → Carried s d m s' d' m' → m'.records ≡ s'.records → sound-records m'.records ≡ true
+    → (numbers_of d').heading ≡ m'.records.heading → (numbers_of d').counts ≡ counts_of m'.records → Kept s' d' m'
+carried {s} {s'} {d} {d'} {m} {m'} k c stands sound heading counts =
+    let stood = k.laws.notes-stand-and-balance in
+    let joint = ap (flat_map (λ (notes : List Note). notes)) c.issues in
+    let every : (P : List (List Note) → Type 0) → P s.issues → P s'.issues = λ P p. subst P (sym c.issues) p in
     record {
       laws = record {
         records-stand = stands;
         notes-stand-and-balance = record {
-          many = c .notes ∙ stood .many ∙ ap length (sym joint);
-          stand = ap (λ n. take n (m′ .ledger)) (c .notes) ∙ ap (take (numbers-of d .notes)) (c .ledger) ∙ stood .stand ∙ sym joint;
-          counted = c .made ∙ stood .counted ∙ ap length (sym (c .issues));
-          bear = every (λ is. (number : ℕ) → number < length is → Bear number (getD is number [])) (stood .bear);
-          balanced = every (λ is. (number : ℕ) → number < length is → balance (getD is number []) ≡ pos 0) (stood .balanced);
+          many = c.notes ∙ stood.many ∙ ap length (sym joint);
+          stand = ap (λ n. take n m'.ledger) c.notes ∙ ap (take (numbers_of d).notes) c.ledger ∙ stood.stand ∙ sym joint;
+          counted = c.made ∙ stood.counted ∙ ap length (sym c.issues);
+          bear = every (λ is. (number : ℕ) → number < length is → Bear number (get_or is number [])) stood.bear;
+          balanced = every (λ is. (number : ℕ) → number < length is → balance (get_or is number []) ≡ pos 0) stood.balanced;
         };
-        sheets-are-as-defined = λ tabled. false-not-true (sym (c .untabled) ∙ tabled);
+        sheets-are-as-defined = λ tabled. false-not-true (sym c.untabled ∙ tabled);
         notes-reach-the-cell = record {
-          reach = subst (λ o. Reach o (all-notes s′)) (sym (c .last-issue)) (subst (Reach (s .last-issue)) (sym joint) (k .laws .notes-reach-the-cell .reach));
-          one-made = λ is. false-not-true (sym (c .unissued) ∙ is);
+          reach = subst (λ o. Reach o (all-notes s')) (sym c.last-issue) (subst (Reach s.last-issue) (sym joint) k.laws.notes-reach-the-cell.reach);
+          one-made = λ is. false-not-true (sym c.unissued ∙ is);
         };
       };
       sound = sound;
       heading = heading;
       counts = counts;
-      limited = ap within-limit (c .table) ∙ k .limited;
-      notes = ap (λ l. sound-notes l (numbers-of d′ .notes) (issues-made d′)) (c .ledger) ∙ ap (λ n. sound-notes (m .ledger) n (issues-made d′)) (c .notes)
-          ∙ ap (sound-notes (m .ledger) (numbers-of d .notes)) (c .made) ∙ k .notes;
-      balanced = ap balance joint ∙ k .balanced;
-      settlement = subst Made-of (sym (c .settlement)) (k .settlement);
-      last-issue = subst Made-of (sym (c .last-issue)) (k .last-issue);
-      table = λ tabled. false-not-true (sym (c .untabled) ∙ tabled);
+      limited = ap within-limit c.table ∙ k.limited;
+      notes = ap (λ l. sound-notes l (numbers_of d').notes (issues-made d')) c.ledger ∙ ap (λ n. sound-notes m.ledger n (issues-made d')) c.notes
+          ∙ ap (sound-notes m.ledger (numbers_of d).notes) c.made ∙ k.notes;
+      balanced = ap balance joint ∙ k.balanced;
+      settlement = subst Made-of (sym c.settlement) k.settlement;
+      last-issue = subst Made-of (sym c.last-issue) k.last-issue;
+      table = λ tabled. false-not-true (sym c.untabled ∙ tabled);
     }
 
 -- enter
 
-heading-same : (r : Records) (item : Record) → with-record r item .heading ≡ r .heading
+heading-same : (r : Records) (item : Record) → (with-record r item).heading ≡ r.heading
 heading-same r (Price x) = refl
 heading-same r (Position x) = refl
 heading-same r (Interconnection x) = refl
@@ -163,19 +150,19 @@ heading-same r (Failure x) = refl
 heading-same r (Fine x) = refl
 
 admitted-is : (r : Records) (bytes : List ℕ) (x item : Record) → admitted r bytes ≡ Ok x → decoded-record bytes ≡ Ok item → x ≡ item
-admitted-is r bytes x item e d = go (record-refusal r item) refl (ap (λ o. and-then o (admission r)) (sym d) ∙ e)
+admitted-is r bytes x item e d = go (record-refusal r item) refl (ap (λ o. and_then o (admission r)) (sym d) ∙ e)
   where
     go : (o : Option Refusal) → record-refusal r item ≡ o → admission r item ≡ Ok x → x ≡ item
-    go None p q = let s : _≡_ {A = Result Record Fault} (Ok item) (Ok x) = rw p at q in cc
+    go None p q = let s : ◌≡◌ {A = Result Record Fault} (Ok item) (Ok x) = rw p at q in cc
     go (Some f) p q = ok-not-err (sym (rw p at q))
 
-pub enter-kept : {s : Summary} (d : open-state.Open) (m : Memory) (bytes : List ℕ) (item : Record) → admitted (m .records) bytes ≡ Ok item → Kept s (Open d) m
-    → Kept (summed (event.entered bytes item) s) (Open (record { numbers = with-counts (d .numbers) (with-record (m .records) item) })) (memory (with-record (m .records) item) (m .table) (m .ledger))
+pub enter-kept : {s : Summary} (d : open-state.Open) (m : Memory) (bytes : List ℕ) (item : Record) → admitted m.records bytes ≡ Ok item → Kept s (Open d) m
+    → Kept (summed (event.entered bytes item) s) (Open (record { numbers = with-counts d.numbers (with-record m.records item) })) (memory (with-record m.records item) m.table m.ledger)
 enter-kept {s} d m bytes item ok k =
     carried k (record { settlement = refl; last-issue = refl; issues = refl; table = refl; ledger = refl; notes = refl; made = refl; untabled = refl; unissued = refl })
-    (ap (λ r. with-record r item) (k .laws .records-stand))
-    (entering-keeps-sound (m .records) bytes item (k .sound) ok .0)
-    (k .heading ∙ sym (heading-same (m .records) item))
+    (ap (λ r. with-record r item) k.laws.records-stand)
+    (entering-keeps-sound m.records bytes item k.sound ok).0
+    (k.heading ∙ sym (heading-same m.records item))
     refl
 
 pub entered-item : (r : Records) (bytes : List ℕ) (x item : Record) → admitted r bytes ≡ Ok x → decoded-record bytes ≡ Ok item → admitted r bytes ≡ Ok item
@@ -183,10 +170,10 @@ entered-item r bytes x item e d = e ∙ ap Ok (admitted-is r bytes x item e d)
 
 -- close
 
-pub close-kept : {s : Summary} (d : open-state.Open) (m : Memory) → Kept s (Open d) m → Kept s (Closed (record { numbers = d .numbers })) m
+pub close-kept : {s : Summary} (d : open-state.Open) (m : Memory) → Kept s (Open d) m → Kept s (Closed (record { numbers = d.numbers })) m
 close-kept {s} d m k =
     carried k (record { settlement = refl; last-issue = refl; issues = refl; table = refl; ledger = refl; notes = refl; made = refl; untabled = refl; unissued = refl })
-    (k .laws .records-stand) (k .sound) (k .heading) (k .counts)
+    k.laws.records-stand k.sound k.heading k.counts
 
 -- correct
 
@@ -197,36 +184,36 @@ corrected-reading r reading x e = go (correction-refusal r reading) refl
     go None p = rw p refl
     go (Some f) p = ok-not-err (sym (rw p at e))
 
-pub correct-kept : {s : Summary} (d : closed-state.Closed) (m : Memory) (reading : Reading) → correction (m .records) reading ≡ Ok reading → Kept s (Closed d) m
-    → Kept (summed (event.corrected reading) s) (Closed d) (memory (with-reading (m .records) reading) (m .table) (m .ledger))
+pub correct-kept : {s : Summary} (d : closed-state.Closed) (m : Memory) (reading : Reading) → correction m.records reading ≡ Ok reading → Kept s (Closed d) m
+    → Kept (summed (event.corrected reading) s) (Closed d) (memory (with-reading m.records reading) m.table m.ledger)
 correct-kept {s} d m reading ok k =
-    let keeps = correcting-keeps-sound (m .records) reading (k .sound) ok in
+    let keeps = correcting-keeps-sound m.records reading k.sound ok in
     carried k (record { settlement = refl; last-issue = refl; issues = refl; table = refl; ledger = refl; notes = refl; made = refl; untabled = refl; unissued = refl })
-    (ap (λ r. with-reading r reading) (k .laws .records-stand)) (keeps .0) (k .heading) (k .counts ∙ sym (keeps .1))
+    (ap (λ r. with-reading r reading) k.laws.records-stand) keeps.0 k.heading (k.counts ∙ sym keeps.1)
 
 -- settle
 
-pub settle-kept : {s : Summary} (d : closed-state.Closed) (m : Memory) (parts : Parts) → Accepted parts (m .records) → Kept s (Closed d) m
-    → Kept (summed (event.settled parts) s) (Settled (record { numbers = d .numbers })) (memory (m .records) (table-of (day-cell parts (m .records))) (m .ledger))
+pub settle-kept : {s : Summary} (d : closed-state.Closed) (m : Memory) (parts : Parts) → Accepted parts m.records → Kept s (Closed d) m
+    → Kept (summed (event.settled parts) s) (Settled (record { numbers = d.numbers })) (memory m.records (table_of (day-cell parts m.records)) m.ledger)
 settle-kept {s} d m parts a k =
-    let same = k .laws .records-stand in
-    let stood = k .laws .notes-stand-and-balance in
+    let same = k.laws.records-stand in
+    let stood = k.laws.notes-stand-and-balance in
     record {
       laws = record {
         records-stand = same;
-        notes-stand-and-balance = record { many = stood .many; stand = stood .stand; counted = stood .counted; bear = stood .bear; balanced = stood .balanced };
-        sheets-are-as-defined = sheets-defined (summed (event.settled parts) s) (Settled (record { numbers = d .numbers })) (memory (m .records) (table-of (day-cell parts (m .records))) (m .ledger)) same (k .sound);
-        notes-reach-the-cell = record { reach = k .laws .notes-reach-the-cell .reach; one-made = λ is. false-not-true is };
+        notes-stand-and-balance = record { many = stood.many; stand = stood.stand; counted = stood.counted; bear = stood.bear; balanced = stood.balanced };
+        sheets-are-as-defined = sheets-defined (summed (event.settled parts) s) (Settled (record { numbers = d.numbers })) (memory m.records (table_of (day-cell parts m.records)) m.ledger) same k.sound;
+        notes-reach-the-cell = record { reach = k.laws.notes-reach-the-cell.reach; one-made = λ is. false-not-true is };
       };
-      sound = k .sound;
-      heading = k .heading;
-      counts = k .counts;
-      limited = day-within parts (m .records) a;
-      notes = k .notes;
-      balanced = k .balanced;
+      sound = k.sound;
+      heading = k.heading;
+      counts = k.counts;
+      limited = day-within parts m.records a;
+      notes = k.notes;
+      balanced = k.balanced;
       settlement = subst (λ r. Accepted parts r) same a;
-      last-issue = k .last-issue;
-      table = λ tabled. ap (λ r. table-of (day-cell parts r)) same;
+      last-issue = k.last-issue;
+      table = λ tabled. ap (λ r. table_of (day-cell parts r)) same;
     }
 
 -- reopen
@@ -238,109 +225,109 @@ following-number IntermediateResettlement j e = let s : j ≡ FinalResettlement 
 following-number FinalResettlement j e = some-not-none (sym e)
 
 abbrev pub at-issue : Numbers → IssueNumber → Numbers
-at-issue numbers issue = record { heading = numbers .heading; counts = numbers .counts; notes = numbers .notes; issue = issue }
+at-issue numbers issue = record { heading = numbers.heading; counts = numbers.counts; notes = numbers.notes; issue = issue }
 
-pub reopen-kept : {s : Summary} (d : issued-state.Issued) (m : Memory) (issue : IssueNumber) → following (d .numbers .issue) ≡ Some issue → Kept s (Issued d) m
-    → Kept s (Closed (record { numbers = at-issue (d .numbers) issue })) m
+pub reopen-kept : {s : Summary} (d : issued-state.Issued) (m : Memory) (issue : IssueNumber) → following d.numbers.issue ≡ Some issue → Kept s (Issued d) m
+    → Kept s (Closed (record { numbers = at-issue d.numbers issue })) m
 reopen-kept {s} d m issue follows k =
-    carried k (record { settlement = refl; last-issue = refl; issues = refl; table = refl; ledger = refl; notes = refl; made = following-number (d .numbers .issue) issue follows; untabled = refl; unissued = refl })
-    (k .laws .records-stand) (k .sound) (k .heading) (k .counts)
+    carried k (record { settlement = refl; last-issue = refl; issues = refl; table = refl; ledger = refl; notes = refl; made = following-number d.numbers.issue issue follows; untabled = refl; unissued = refl })
+    k.laws.records-stand k.sound k.heading k.counts
 
 -- issue
 
-all-more : (issues : List (List Note)) (new : List Note) → joined (λ (notes : List Note). notes) (issues ++ (new ∷ [])) ≡ joined (λ (notes : List Note). notes) issues ++ new
-all-more issues new = sym (joined-more (λ (notes : List Note). notes) [] issues new)
+all_more : (issues : List (List Note)) (new : List Note) → flat_map (λ (notes : List Note). notes) (issues ++ (new ∷ [])) ≡ flat_map (λ (notes : List Note). notes) issues ++ new
+all_more issues new = sym (flat_map_more (λ (notes : List Note). notes) [] issues new)
 
 -- what holds of each issue so far, and of the new one, holds of each
-each-more : (P : ℕ → List Note → Type 0) (issues : List (List Note)) (new : List Note) → ((i : ℕ) → i < length issues → P i (getD issues i [])) → P (length issues) new
-    → (i : ℕ) → i < length (issues ++ (new ∷ [])) → P i (getD (issues ++ (new ∷ [])) i [])
-each-more P issues new before here i below =
+each_more : (P : ℕ → List Note → Type 0) (issues : List (List Note)) (new : List Note) → ((i : ℕ) → i < length issues → P i (get_or issues i [])) → P (length issues) new
+    → (i : ℕ) → i < length (issues ++ (new ∷ [])) → P i (get_or (issues ++ (new ∷ [])) i [])
+each_more P issues new before here i below =
     let long = length-append issues (new ∷ []) in
-    elim (cases-lt i (length issues)) [
-      | inl lt ↦ subst (P i) (sym (getD-append-left issues (new ∷ []) [] i lt)) (before i lt)
+    elim (cases_lt i (length issues)) [
+      | inl lt ↦ subst (P i) (sym (get_or_append_left issues (new ∷ []) [] i lt)) (before i lt)
       | inr ge ↦
           let is : length issues ≡ i = omega arith in
-          subst (P i) (sym (getD-push issues new [] i is)) (subst (λ j. P j new) is here)
+          subst (P i) (sym (get_or_push issues new [] i is)) (subst (λ j. P j new) is here)
     ]
 
 -- what the earlier notes of a code and a party add up to is small
-earlier-small : (o : Settlement) (notes : List Note) → Made-of o → Reach o notes → (code : Code) (party : ℕ) → natAbs (noted notes code party) ≤ amount-limit / 2
-earlier-small none-yet notes made reach code party = rw reach (omega arith)
-earlier-small (settled-by parts r) notes a reach code party = omega (arith, ap natAbs (reach code party), cells-are-small parts (a .fair) r (a .sound) (a .borne) code party)
+earlier-small : (o : Settlement) (notes : List Note) → Made-of o → Reach o notes → (code : Code) (party : ℕ) → nat_abs (noted notes code party) ≤ amount-limit / 2
+earlier-small none_yet notes made reach code party = rw reach (omega arith)
+earlier-small (settled-by parts r) notes a reach code party = omega (arith, ap nat_abs (reach code party), cells-are-small parts a.fair r a.sound a.borne code party)
 
-module _ {s : Summary} (d : settled-state.Settled) (m : Memory) (parts : Parts) (r : Records) (a : Accepted parts r) (by : s .settlement ≡ settled-by parts r) (fills : m .table ≡ table-of (day-cell parts r)) (k : Kept s (Settled d) m)
-    (fits : d .numbers .notes + length (notes-to-add (d .numbers) m) ≤ length (m .ledger)) where
+module _ {s : Summary} (d : settled-state.Settled) (m : Memory) (parts : Parts) (r : Records) (a : Accepted parts r) (by : s.settlement ≡ settled-by parts r) (fills : m.table ≡ table_of (day-cell parts r)) (k : Kept s (Settled d) m)
+    (fits : d.numbers.notes + length (notes-to-add d.numbers m) ≤ length m.ledger) where
   abbrev count : ℕ
-  count = d .numbers .notes
+  count = d.numbers.notes
 
   abbrev made : ℕ
-  made = issue-number (d .numbers .issue)
+  made = issue-number d.numbers.issue
 
   abbrev new : List Note
-  new = notes-to-add (d .numbers) m
+  new = notes-to-add d.numbers m
 
   abbrev after : Summary
   after = summed (event.issued new) s
 
   abbrev left : Memory
-  left = memory (m .records) (m .table) (issue-leaves (m .ledger) count new)
+  left = memory m.records m.table (issue-leaves m.ledger count new)
 
   abbrev issued-day : Day
-  issued-day = Issued (record { numbers = with-notes (d .numbers) (length new) })
+  issued-day = Issued (record { numbers = with-notes d.numbers (length new) })
 
   stood : Notes-stand-and-balance s (Settled d) m
-  stood = k .laws .notes-stand-and-balance
+  stood = k.laws.notes-stand-and-balance
 
-  cells : (code : Code) (party : ℕ) → cell (m .table) code party ≡ day-cell parts r code party
+  cells : (code : Code) (party : ℕ) → cell m.table code party ≡ day-cell parts r code party
   cells code party = ap (λ t. cell t code party) fills ∙ day-holds parts r a code party
 
   reaches : (code : Code) (party : ℕ) → noted (all-notes after) code party ≡ day-cell parts r code party
   reaches code party =
-      ap (λ ns. noted ns code party) (all-more (s .issues) new) ∙ ap (λ ns. noted (ns ++ new) code party) (sym (stood .stand))
-      ∙ reached (m .ledger) count made (m .table) (k .notes) code party ∙ cells code party
+      ap (λ ns. noted ns code party) (all_more s.issues new) ∙ ap (λ ns. noted (ns ++ new) code party) (sym stood.stand)
+      ∙ reached m.ledger count made m.table k.notes code party ∙ cells code party
 
   even : balance new ≡ pos 0
   even =
-      balanced (m .ledger) count made (m .table) (k .notes) (ap (λ t. total (cell t)) fills ∙ day-even parts r a)
-      (ap balance (stood .stand) ∙ k .balanced)
+      balanced m.ledger count made m.table k.notes (ap (λ t. total (cell t)) fills ∙ day-even parts r a)
+      (ap balance stood.stand ∙ k.balanced)
 
   all-even : balance (all-notes after) ≡ pos 0
   all-even =
-      let whole = ap balance (all-more (s .issues) new) ∙ sum-++ (λ (n : Note). n .amount) (all-notes s) new in
-      let old = k .balanced in
+      let whole = ap balance (all_more s.issues new) ∙ sum-++ (λ (n : Note). n.amount) (all-notes s) new in
+      let old = k.balanced in
       let here = even in
       whole ∙ omega (arith, ints, old, here)
 
-  near : (code : Code) (party : ℕ) → natAbs (cell (m .table) code party -ℤ earlier (m .ledger) count code party) ≤ amount-limit
+  near : (code : Code) (party : ℕ) → nat_abs (cell m.table code party -ℤ earlier m.ledger count code party) ≤ amount-limit
   near =
-      halves (m .ledger) count (m .table)
-      (λ code party. omega (arith, ap (λ t. natAbs (cell t code party)) fills, day-small parts r a code party))
-      (λ code party. omega (arith, ap (λ ns. natAbs (noted ns code party)) (stood .stand), earlier-small (s .last-issue) (all-notes s) (k .last-issue) (k .laws .notes-reach-the-cell .reach) code party))
+      halves m.ledger count m.table
+      (λ code party. omega (arith, ap (λ t. nat_abs (cell t code party)) fills, day-small parts r a code party))
+      (λ code party. omega (arith, ap (λ ns. nat_abs (noted ns code party)) stood.stand, earlier-small s.last-issue (all-notes s) k.last-issue k.laws.notes-reach-the-cell.reach code party))
 
   pub issue-kept : Kept after issued-day left
   issue-kept = record {
     laws = record {
-      records-stand = k .laws .records-stand;
+      records-stand = k.laws.records-stand;
       notes-stand-and-balance = record {
-        many = omega (arith, stood .many, ap length (all-more (s .issues) new), length-append (all-notes s) new);
-        stand = appended (m .ledger) new count fits ∙ ap (λ ns. ns ++ new) (stood .stand) ∙ sym (all-more (s .issues) new);
-        counted = omega (arith, stood .counted, length-append (s .issues) (new ∷ []));
-        bear = each-more Bear (s .issues) new (stood .bear) (λ i below. borne (m .ledger) count made (m .table) i below ∙ stood .counted);
-        balanced = each-more (λ i ns. balance ns ≡ pos 0) (s .issues) new (stood .balanced) even;
+        many = omega (arith, stood.many, ap length (all_more s.issues new), length-append (all-notes s) new);
+        stand = appended m.ledger new count fits ∙ ap (λ ns. ns ++ new) stood.stand ∙ sym (all_more s.issues new);
+        counted = omega (arith, stood.counted, length-append s.issues (new ∷ []));
+        bear = each_more Bear s.issues new stood.bear (λ i below. borne m.ledger count made m.table i below ∙ stood.counted);
+        balanced = each_more (λ i ns. balance ns ≡ pos 0) s.issues new stood.balanced even;
       };
-      sheets-are-as-defined = sheets-defined after issued-day left (k .laws .records-stand) (k .sound);
+      sheets-are-as-defined = sheets-defined after issued-day left k.laws.records-stand k.sound;
       notes-reach-the-cell = record {
         reach = subst (λ o. Reach o (all-notes after)) (sym by) reaches;
-        one-made = λ is. subst Was-made (sym by) (a .fair);
+        one-made = λ is. subst Was-made (sym by) a.fair;
       };
     };
-    sound = k .sound;
-    heading = k .heading;
-    counts = k .counts;
-    limited = k .limited;
-    notes = kept-sound (m .ledger) count made (m .table) (k .notes) near fits;
+    sound = k.sound;
+    heading = k.heading;
+    counts = k.counts;
+    limited = k.limited;
+    notes = kept-sound m.ledger count made m.table k.notes near fits;
     balanced = all-even;
-    settlement = k .settlement;
-    last-issue = k .settlement;
-    table = λ tabled. k .table refl;
+    settlement = k.settlement;
+    last-issue = k.settlement;
+    table = λ tabled. k.table refl;
   }

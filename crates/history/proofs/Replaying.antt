@@ -1,34 +1,25 @@
 -- The steps that were made, one after the other.
-use mathlib.Core.Bool.{Bool, true, false}
-use mathlib.Core.List.{List, [], _∷_, _++_}
-use mathlib.Core.Path.{_≡_, refl, sym, ap, subst, _∙_}
-use denote.Ref.{RefT}
-use Prim.Native.Nat.{ℕ, _+_, _<_, _≤_}
-use lib.ListN.{drop, getD, length, take}
-use Rattle·std.proofs.shelf.Lists.{drop-all, drop-more, map-more}
-use Rattle·std.specs.declared.option.Option.{Option}
-use Rattle·std.specs.declared.option.Option.the-variants.{None, Some}
-use Rattle·std.specs.declared.result.Result.{Result}
-use Rattle·std.specs.declared.result.Result.the-variants.{Err, Ok}
-use Rattle·faults.specs.declared.fault.Fault.{Fault}
-use Rattle·codes.specs.declared.table.Table.{Table}
-use Rattle·day.specs.Calls.{Parts, given}
-use Rattle·day.specs.Memory.{Memory}
-use Rattle·day.specs.declared.refused.Refused.{Refused}
-use Rattle·history·specs.Events.{Call, Event, Lent, answer-of, answers-of, call-of, calls-of, lent, lent-after, lent-in, takes}
-use Rattle·history·specs.Histories.{Does, History, next}
-use Rattle·history·specs.Laws.{Always}
-use Rattle·history·specs.Replays.{Ran-on, Replayed, Stepped, Stopped, call-in, calls-in, first-call}
-use Rattle·history·specs.declared.states.Day.{Day}
-use Rattle·history·specs.declared.steps.Answer.{Answer}
-use Rattle·history·specs.declared.steps.Answer.the-variants.{Done}
-use Rattle·history·specs.declared.steps.Begin.{Begin}
-use Rattle·history·specs.declared.states.Day.the-variants.{Open as DayOpen}
-use Rattle·history·specs.declared.steps.Step.{Step}
-use Rattle·history·specs.declared.steps.Step.the-variants.{Close, Correct, Enter, Issue, Reopen, Settle, Sheet, Statement}
-use Rattle·day.specs.declared.state.Open.{Open}
-use Rattle·history·proofs.Outcomes.{was-refused, went-well}
-use Rattle·history·proofs.Theorem.{always}
+use Rattle.std.proofs.Common.{◌≡◌, ℕ, ◌+◌, ◌<◌, ◌≤◌, Bool, true, false, List, [], ◌∷◌, ◌++◌, length, get_or, take, drop, Some, None, Ok, Err, Option, Result, sym, refl, ap, ◌∙◌, subst, Bor}
+use Rattle.std.proofs.lemmas.List.{drop_all, drop_more, map_more}
+use Rattle.faults.specs.declared.fault.Fault.{Fault}
+use Rattle.codes.specs.declared.table.Table.{Table}
+use Rattle.day.specs.Calls.{Parts, given}
+use Rattle.day.specs.Memory.{Memory}
+use Rattle.day.specs.declared.refused.Refused.{Refused}
+use Rattle.history.specs.Events.{Call, Event, Lent, answer-of, answers_of, call-of, calls-of, lent, lent-after, lent-in, takes}
+use Rattle.history.specs.Histories.{Does, History, next}
+use Rattle.history.specs.Laws.{Always}
+use Rattle.history.specs.Replays.{Ran-on, Replayed, Stepped, Stopped, call-in, calls-in, first-call}
+use Rattle.history.specs.declared.states.Day.{Day}
+use Rattle.history.specs.declared.steps.Answer.{Answer}
+use Rattle.history.specs.declared.steps.Answer.TheVariants.{Done}
+use Rattle.history.specs.declared.steps.Begin.{Begin}
+use Rattle.history.specs.declared.states.Day.TheVariants.{Open as DayOpen}
+use Rattle.history.specs.declared.steps.Step.{Step}
+use Rattle.history.specs.declared.steps.Step.TheVariants.{Close, Correct, Enter, Issue, Reopen, Settle, Sheet, Statement}
+use Rattle.day.specs.declared.state.Open.{Open}
+use Rattle.history.proofs.Outcomes.{was-refused, went-well}
+use Rattle.history.proofs.Theorem.{always}
 
 -- a call that was made is a step, and after any history the laws hold
 pub stepped : {d e : Day} {m n : Memory} {v : Event} (call : Call) (answer : Answer) (before after : Lent) → Does d m v e n → call-of v ≡ call → answer-of v ≡ answer → lent-after v before ≡ after
@@ -36,7 +27,7 @@ pub stepped : {d e : Day} {m n : Memory} {v : Event} (call : Call) (answer : Ans
 stepped {d} {e} {m} {n} {v} call answer before after does made answered left =
     record { event = v; made = made; answered = answered; left = left; does = does; lawful = λ events history. always (next history does) }
 
-pub replayed : {events : List Event} {d : Day} {m : Memory} (calls : List Call) (answers : List Answer) (before after : Lent) → calls-of events ≡ calls → answers-of events ≡ answers → lent-in events before ≡ after → History events d m
+pub replayed : {events : List Event} {d : Day} {m : Memory} (calls : List Call) (answers : List Answer) (before after : Lent) → calls-of events ≡ calls → answers_of events ≡ answers → lent-in events before ≡ after → History events d m
     → Replayed calls answers d m before after
 replayed {events} calls answers before after made answered left history =
     record { events = events; made = made; answered = answered; left = left; history = history; lawful = always history }
@@ -56,65 +47,65 @@ module _ {D : Type 0} (wrap : D → Day) (o : Option Fault) (d : D) (page filled
       go : (o : Option Fault) → (Ok e, left) ≡ given o d page d filled → (Ok (wrap e), left) ≡ given o (wrap d) page (wrap d) filled
       go o q =
           let went = went-well o d page d filled e left q in
-          rw (went .0, went .1, went .2) refl
+          rw (went.0, went.1, went.2) refl
 
-  pub as-refused : (r : Refused D) (left : Table) → (Err r, left) ≡ given o d page d filled → (Err (record { day = wrap (r .day); fault = r .fault }), left) ≡ given o (wrap d) page (wrap d) filled
+  pub as-refused : (r : Refused D) (left : Table) → (Err r, left) ≡ given o d page d filled → (Err (record { day = wrap r.day; fault = r.fault }), left) ≡ given o (wrap d) page (wrap d) filled
   as-refused r left q =
       let went = was-refused o d page d filled r left q in
-      rw (went .0, went .1, went .2) refl
+      rw (went.0, went.1, went.2) refl
 
   -- a refused sheet leaves the page
   pub page-left : (r : Refused D) (left : Table) → (Err r, left) ≡ given o d page d filled → page ≡ left
-  page-left r left q = sym (was-refused o d page d filled r left q .2)
+  page-left r left q = sym (was-refused o d page d filled r left q).2
 
 -- one step more
 module _ {R : Type 0} (parts : R → Parts) (room : ℕ) where
   pub calls-more : (steps : List (Step R)) (first : Call) (events : List Event) (v : Event) (i : ℕ) (x : Step R) → calls-of events ≡ first ∷ calls-in parts room (take i steps) → call-of v ≡ call-in parts room x
-      → i < length steps → x ≡ getD steps i x → calls-of (v ∷ events) ≡ first ∷ calls-in parts room (take (i + 1) steps)
+      → i < length steps → x ≡ get_or steps i x → calls-of (v ∷ events) ≡ first ∷ calls-in parts room (take (i + 1) steps)
   calls-more steps first events v i x before made below is =
-      let more = map-more (call-in parts room) steps i x below ∙ ap (λ y. calls-in parts room (take i steps) ++ (call-in parts room y ∷ [])) (sym is) in
+      let more = map_more (call-in parts room) steps i x below ∙ ap (λ y. calls-in parts room (take i steps) ++ (call-in parts room y ∷ [])) (sym is) in
       ap (λ l. l ++ (call-of v ∷ [])) before ∙ ap (λ c. (first ∷ calls-in parts room (take i steps)) ++ (c ∷ [])) made ∙ ap (λ l. first ∷ l) (sym more)
 
-  pub stops : (steps : List (Step R)) (i : ℕ) (x : Step R) (d : Day) → i < length steps → x ≡ getD steps i x → takes d (call-in parts room x) ≡ false → Stopped (calls-in parts room (drop i steps)) d
-  stops steps i x d below is out = rw (drop-more steps i x below) (ap (λ y. takes d (call-in parts room y)) (sym is) ∙ out)
+  pub stops : (steps : List (Step R)) (i : ℕ) (x : Step R) (d : Day) → i < length steps → x ≡ get_or steps i x → takes d (call-in parts room x) ≡ false → Stopped (calls-in parts room (drop i steps)) d
+  stops steps i x d below is out = rw (drop_more steps i x below) (ap (λ y. takes d (call-in parts room y)) (sym is) ∙ out)
 
   pub ends : (steps : List (Step R)) (i : ℕ) (d : Day) → length steps ≤ i → Stopped (calls-in parts room (drop i steps)) d
-  ends steps i d past = rw (drop-all i steps past) tt
+  ends steps i d past = rw (drop_all i steps past) tt
 
   -- one step more is one call more
   pub step-more : (steps : List (Step R)) (first : Call) (done : Answer) (answers : List Answer) (i : ℕ) (x : Step R) (a : Answer) (d e : Day) (m n : Memory) (before now after : Lent) (lent-room : ℕ)
-      → Replayed (first ∷ calls-in parts room (take i steps)) (done ∷ answers) d m before now → Stepped (call-in parts lent-room x) a d m now e n after → lent-room ≡ room → i < length steps → x ≡ getD steps i x
+      → Replayed (first ∷ calls-in parts room (take i steps)) (done ∷ answers) d m before now → Stepped (call-in parts lent-room x) a d m now e n after → lent-room ≡ room → i < length steps → x ≡ get_or steps i x
       → Replayed (first ∷ calls-in parts room (take (i + 1) steps)) (done ∷ (answers ++ (a ∷ []))) e n before after
   step-more steps first done answers i x a d e m n before now after lent-room r s same below is =
       replayed _ _ before after
-      (calls-more steps first (r .events) (s .event) i x (r .made) (s .made ∙ ap (λ k. call-in parts k x) same) below is)
-      (ap (λ l. l ++ (answer-of (s .event) ∷ [])) (r .answered) ∙ ap (λ y. (done ∷ answers) ++ (y ∷ [])) (s .answered))
-      (ap (lent-after (s .event)) (r .left) ∙ s .left)
-      (next (r .history) (s .does))
+      (calls-more steps first r.events s.event i x r.made (s.made ∙ ap (λ k. call-in parts k x) same) below is)
+      (ap (λ l. l ++ (answer-of s.event ∷ [])) r.answered ∙ ap (λ y. (done ∷ answers) ++ (y ∷ [])) s.answered)
+      (ap (lent-after s.event) r.left ∙ s.left)
+      (next r.history s.does)
 
   -- the end of a replay
-  pub ran-on : (start : Begin) (steps : List (Step R)) (m : Memory) (before : Lent) (d e : Day) (answers : List Answer) (n k : Memory) (now after : Lent) (entries i : ℕ) → room ≡ length (before .buffer) → entries ≡ length (m .ledger) → i ≡ length answers
+  pub ran_on : (start : Begin) (steps : List (Step R)) (m : Memory) (before : Lent) (d e : Day) (answers : List Answer) (n k : Memory) (now after : Lent) (entries i : ℕ) → room ≡ length before.buffer → entries ≡ length m.ledger → i ≡ length answers
       → Replayed (first-call start entries ∷ calls-in parts room (take i steps)) (Done ∷ answers) d n before now → e ≡ d → k ≡ n → after ≡ now → Stopped (calls-in parts room (drop i steps)) d
       → Ran-on parts start steps m before e answers k after
-  ran-on start steps m before d e answers n k now after entries i wide size many r same-day same-memory same-lent stopped =
-      let calls : first-call start entries ∷ calls-in parts room (take i steps) ≡ first-call start (length (m .ledger)) ∷ calls-in parts (length (before .buffer)) (take (length answers) steps) =
-      ap (λ x. first-call start x ∷ calls-in parts room (take i steps)) size ∙ ap (λ x. first-call start (length (m .ledger)) ∷ calls-in parts x (take i steps)) wide
-      ∙ ap (λ x. first-call start (length (m .ledger)) ∷ calls-in parts (length (before .buffer)) (take x steps)) many in
-      let history : Replayed (first-call start (length (m .ledger)) ∷ calls-in parts (length (before .buffer)) (take (length answers) steps)) (Done ∷ answers) d n before now =
+  ran_on start steps m before d e answers n k now after entries i wide size many r same-day same_memory same-lent stopped =
+      let calls : first-call start entries ∷ calls-in parts room (take i steps) ≡ first-call start (length m.ledger) ∷ calls-in parts (length before.buffer) (take (length answers) steps) =
+      ap (λ x. first-call start x ∷ calls-in parts room (take i steps)) size ∙ ap (λ x. first-call start (length m.ledger) ∷ calls-in parts x (take i steps)) wide
+      ∙ ap (λ x. first-call start (length m.ledger) ∷ calls-in parts (length before.buffer) (take x steps)) many in
+      let history : Replayed (first-call start (length m.ledger) ∷ calls-in parts (length before.buffer) (take (length answers) steps)) (Done ∷ answers) d n before now =
       subst (λ (cs : List Call). Replayed cs (Done ∷ answers) d n before now) calls r in
       record {
-        history = replayed-at same-day same-memory same-lent history;
-        stopped = subst (λ (x : Day). Stopped (calls-in parts (length (before .buffer)) (drop (length answers) steps)) x) (sym same-day)
-            (subst (λ (x : ℕ). Stopped (calls-in parts (length (before .buffer)) (drop x steps)) d) many
+        history = replayed-at same-day same_memory same-lent history;
+        stopped = subst (λ (x : Day). Stopped (calls-in parts (length before.buffer) (drop (length answers) steps)) x) (sym same-day)
+            (subst (λ (x : ℕ). Stopped (calls-in parts (length before.buffer) (drop x steps)) d) many
             (subst (λ (x : ℕ). Stopped (calls-in parts x (drop i steps)) d) wide stopped));
       }
 
   -- an open day takes no step but the two
-  pub open-takes-no-other : (day : Day) (d : Open) (x : Step R) → day ≡ DayOpen d → ((bytes : RefT (List ℕ)) → x ≡ Enter bytes → ⊥) → ((bytes : RefT (List ℕ)) → x ≡ Close bytes → ⊥)
+  pub open-takes-no-other : (day : Day) (d : Open) (x : Step R) → day ≡ DayOpen d → ((bytes : Bor (List ℕ)) → x ≡ Enter bytes → ⊥) → ((bytes : Bor (List ℕ)) → x ≡ Close bytes → ⊥)
       → takes day (call-in parts room x) ≡ false
   open-takes-no-other day d x is no-enter no-close = ap (λ y. takes y (call-in parts room x)) is ∙ go x no-enter no-close
     where
-      go : (x : Step R) → ((bytes : RefT (List ℕ)) → x ≡ Enter bytes → ⊥) → ((bytes : RefT (List ℕ)) → x ≡ Close bytes → ⊥) → takes (DayOpen d) (call-in parts room x) ≡ false
+      go : (x : Step R) → ((bytes : Bor (List ℕ)) → x ≡ Enter bytes → ⊥) → ((bytes : Bor (List ℕ)) → x ≡ Close bytes → ⊥) → takes (DayOpen d) (call-in parts room x) ≡ false
       go (Enter bytes) one two = absurd (one bytes refl)
       go (Close bytes) one two = absurd (two bytes refl)
       go (Correct reading) one two = refl

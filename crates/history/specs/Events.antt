@@ -1,23 +1,20 @@
 -- The calls of a history, how each ended, and what one reads off them.
-use mathlib.Core.Bool.{Bool, false}
-use mathlib.Core.List.{List, [], _∷_, _++_, map}
-use Prim.Native.Nat.{ℕ}
-use lib.ListN.{drop, length}
-use Rattle·std.specs.Joined.{joined}
-use Rattle·faults.specs.declared.fault.Fault.{Fault}
-use Rattle·dayfile.specs.Records.{Records}
-use Rattle·dayfile.specs.declared.heading.Heading.{Heading}
-use Rattle·dayfile.specs.declared.record.Record.{Record}
-use Rattle·book.specs.Books.{new-heading, no-records, with-record}
-use Rattle·correcting.specs.Readings.{with-reading}
-use Rattle·correcting.specs.declared.reading.Reading.{Reading}
-use Rattle·codes.specs.declared.table.Table.{Table}
-use Rattle·ledger.specs.declared.note.Note.{Note}
-use Rattle·day.specs.Calls.{Parts}
-use Rattle·history·specs.States.{has-table, is-closed, is-issued, is-open, is-settled}
-use Rattle·history·specs.declared.states.Day.{Day}
-use Rattle·history·specs.declared.steps.Answer.{Answer}
-use Rattle·history·specs.declared.steps.Answer.the-variants.{Added, Done, Refused, Written}
+use Rattle.std.specs.Prelude.{ℕ, Bool, false, List, [], ◌∷◌, ◌++◌, map, length, drop}
+use Rattle.std.specs.List.{flat_map}
+use Rattle.faults.specs.declared.fault.Fault.{Fault}
+use Rattle.dayfile.specs.Records.{Records}
+use Rattle.dayfile.specs.declared.heading.Heading.{Heading}
+use Rattle.dayfile.specs.declared.record.Record.{Record}
+use Rattle.book.specs.Books.{new-heading, no-records, with-record}
+use Rattle.correcting.specs.Readings.{with-reading}
+use Rattle.correcting.specs.declared.reading.Reading.{Reading}
+use Rattle.codes.specs.declared.table.Table.{Table}
+use Rattle.ledger.specs.declared.note.Note.{Note}
+use Rattle.day.specs.Calls.{Parts}
+use Rattle.history.specs.States.{has-table, is-closed, is-issued, is_open, is-settled}
+use Rattle.history.specs.declared.states.Day.{Day}
+use Rattle.history.specs.declared.steps.Answer.{Answer}
+use Rattle.history.specs.declared.steps.Answer.TheVariants.{Added, Done, Refused, Written}
 
 -- A call, by what it is given besides the day and what the day's memory holds: the bytes of a record or a file, a reading,
 -- a rule by its meaning. A history begins with opening or loading, into a ledger of so many entries; stating has a buffer
@@ -66,8 +63,8 @@ call-of (refused call fault) = call
 abbrev pub takes : Day → Call → Bool
 takes day (opening bytes entries) = false
 takes day (loading file entries) = false
-takes day (entering bytes) = is-open day
-takes day (closing bytes) = is-open day
+takes day (entering bytes) = is_open day
+takes day (closing bytes) = is_open day
 takes day (correcting reading) = is-closed day
 takes day (settling parts) = is-closed day
 takes day (sheeting hour parts) = has-table day
@@ -105,9 +102,9 @@ lent-after (entered bytes item) l = l
 lent-after (closed bytes) l = l
 lent-after (corrected reading) l = l
 lent-after (settled parts) l = l
-lent-after (sheeted hour parts page) l = lent page (l .buffer)
+lent-after (sheeted hour parts page) l = lent page l.buffer
 lent-after (issued notes) l = l
-lent-after (stated number room text) l = lent (l .page) (text ++ drop (length text) (l .buffer))
+lent-after (stated number room text) l = lent l.page (text ++ drop (length text) l.buffer)
 lent-after reopened l = l
 lent-after (refused call fault) l = l
 
@@ -118,9 +115,9 @@ abbrev pub calls-of : List Event → List Call
 calls-of [] = []
 calls-of (event ∷ events) = calls-of events ++ (call-of event ∷ [])
 
-abbrev pub answers-of : List Event → List Answer
-answers-of [] = []
-answers-of (event ∷ events) = answers-of events ++ (answer-of event ∷ [])
+abbrev pub answers_of : List Event → List Answer
+answers_of [] = []
+answers_of (event ∷ events) = answers_of events ++ (answer-of event ∷ [])
 
 abbrev pub lent-in : List Event → Lent → Lent
 lent-in [] l = l
@@ -128,7 +125,7 @@ lent-in (event ∷ events) l = lent-after event (lent-in events l)
 
 -- what a settlement was made of: a rule, by its meaning, and records
 pub data Settlement : Type 0 where
-  none-yet : Settlement
+  none_yet : Settlement
   settled-by : Parts → Records → Settlement
 
 -- What one reads off a history: its records, those accepted, with each reading as the last accepted correction left it; the
@@ -142,24 +139,24 @@ pub record Summary : Type 0 where
 
 -- the notes of all issues
 abbrev pub all-notes : Summary → List Note
-all-notes s = joined (λ notes. notes) (s .issues)
+all-notes s = flat_map (λ notes. notes) s.issues
 
 abbrev pub begun : Records → Summary
-begun r = record { records = r; settlement = none-yet; last-issue = none-yet; issues = [] }
+begun r = record { records = r; settlement = none_yet; last-issue = none_yet; issues = [] }
 
 abbrev pub with-records : Summary → Records → Summary
-with-records s r = record { records = r; settlement = s .settlement; last-issue = s .last-issue; issues = s .issues }
+with-records s r = record { records = r; settlement = s.settlement; last-issue = s.last-issue; issues = s.issues }
 
 -- one event more
 abbrev pub summed : Event → Summary → Summary
 summed (opened bytes entries heading) s = begun (no-records heading)
 summed (loaded file entries records) s = begun records
-summed (entered bytes item) s = with-records s (with-record (s .records) item)
+summed (entered bytes item) s = with-records s (with-record s.records item)
 summed (closed bytes) s = s
-summed (corrected reading) s = with-records s (with-reading (s .records) reading)
-summed (settled parts) s = record { records = s .records; settlement = settled-by parts (s .records); last-issue = s .last-issue; issues = s .issues }
+summed (corrected reading) s = with-records s (with-reading s.records reading)
+summed (settled parts) s = record { records = s.records; settlement = settled-by parts s.records; last-issue = s.last-issue; issues = s.issues }
 summed (sheeted hour parts page) s = s
-summed (issued notes) s = record { records = s .records; settlement = s .settlement; last-issue = s .settlement; issues = s .issues ++ (notes ∷ []) }
+summed (issued notes) s = record { records = s.records; settlement = s.settlement; last-issue = s.settlement; issues = s.issues ++ (notes ∷ []) }
 summed (stated number room text) s = s
 summed reopened s = s
 summed (refused call fault) s = s

@@ -1,50 +1,42 @@
 -- What the calls that run a history promise.
-use mathlib.Core.Bool.{false}
-use mathlib.Core.List.{List, [], _∷_, map}
-use mathlib.Core.Path.{_≡_}
-use denote.Ref.{now}
-use Prim.Native.Nat.{ℕ}
-use lib.ListN.{drop, length, take}
-use Rattle·std.specs.Of.Vec.{vec-items}
-use Rattle·std.specs.declared.result.Result.{Result}
-use Rattle·std.specs.declared.result.Result.the-variants.{Err, Ok}
-use Rattle·faults.specs.declared.fault.Fault.{Fault}
-use Rattle·day.specs.Calls.{Parts, load-gives, open-gives}
-use Rattle·day.specs.Memory.{Memory}
-use Rattle·history·specs.Events.{Call, Event, Lent, answer-of, answers-of, call-of, calls-of, closing, correcting, entering, issuing, lent-after, lent-in, loading, opening, reopening, settling, sheeting, stating, takes}
-use Rattle·history·specs.Histories.{Does, History, next}
-use Rattle·history·specs.Laws.{Always}
-use Rattle·history·specs.declared.states.Day.{Day}
-use Rattle·history·specs.declared.steps.Advance.{Advance}
-use Rattle·history·specs.declared.steps.Advance.the-variants.{Made, NotTaken}
-use Rattle·history·specs.declared.steps.NotBegun.{NotBegun}
-use Rattle·history·specs.declared.steps.NotBegun.the-variants.{NoMemory, Refused}
-use Rattle·history·specs.declared.steps.Replay.{Replay}
-use Rattle·history·specs.declared.steps.Answer.{Answer}
-use Rattle·history·specs.declared.steps.Answer.the-variants.{Done}
-use Rattle·history·specs.declared.steps.Begin.{Begin}
-use Rattle·history·specs.declared.steps.Begin.the-variants.{Load, Open}
-use Rattle·history·specs.declared.steps.Step.{Step}
-use Rattle·history·specs.declared.steps.Step.the-variants.{Close, Correct, Enter, Issue, Reopen, Settle, Sheet, Statement}
+use Rattle.std.specs.Prelude.{◌≡◌, ℕ, false, List, [], ◌∷◌, map, length, take, drop, Ok, Err, vec_items, Result}
+use Rattle.faults.specs.declared.fault.Fault.{Fault}
+use Rattle.day.specs.Calls.{Parts, load_gives, open_gives}
+use Rattle.day.specs.Memory.{Memory}
+use Rattle.history.specs.Events.{Call, Event, Lent, answer-of, answers_of, call-of, calls-of, closing, correcting, entering, issuing, lent-after, lent-in, loading, opening, reopening, settling, sheeting, stating, takes}
+use Rattle.history.specs.Histories.{Does, History, next}
+use Rattle.history.specs.Laws.{Always}
+use Rattle.history.specs.declared.states.Day.{Day}
+use Rattle.history.specs.declared.steps.Advance.{Advance}
+use Rattle.history.specs.declared.steps.Advance.TheVariants.{Made, NotTaken}
+use Rattle.history.specs.declared.steps.NotBegun.{NotBegun}
+use Rattle.history.specs.declared.steps.NotBegun.TheVariants.{NoMemory, Refused}
+use Rattle.history.specs.declared.steps.Replay.{Replay}
+use Rattle.history.specs.declared.steps.Answer.{Answer}
+use Rattle.history.specs.declared.steps.Answer.TheVariants.{Done}
+use Rattle.history.specs.declared.steps.Begin.{Begin}
+use Rattle.history.specs.declared.steps.Begin.TheVariants.{Load, Open}
+use Rattle.history.specs.declared.steps.Step.{Step}
+use Rattle.history.specs.declared.steps.Step.TheVariants.{Close, Correct, Enter, Issue, Reopen, Settle, Sheet, Statement}
 
 -- the call that a history begins with, into a ledger of so many entries
 abbrev pub first-call : Begin → ℕ → Call
-first-call (Open bytes) entries = opening (now bytes) entries
-first-call (Load file) entries = loading (now file) entries
+first-call (Open bytes) entries = opening bytes.now entries
+first-call (Load file) entries = loading file.now entries
 
 -- how a beginning is refused, and what memory then holds
 abbrev pub Refused-at : Begin → Memory → Fault → Memory → Type 0
-Refused-at (Open bytes) m fault n = (Err fault, n) ≡ open-gives m (now bytes)
-Refused-at (Load file) m fault n = (Err fault, n) ≡ load-gives m (now file)
+Refused-at (Open bytes) m fault n = (Err fault, n) ≡ open_gives m bytes.now
+Refused-at (Load file) m fault n = (Err fault, n) ≡ load_gives m file.now
 
 -- the call that a step is, under the meaning that its rule has; statements have a buffer of so many bytes
 module _ {R : Type 0} (parts : R → Parts) (room : ℕ) where
   abbrev pub call-in : Step R → Call
-  call-in (Enter bytes) = entering (now bytes)
-  call-in (Close bytes) = closing (now bytes)
+  call-in (Enter bytes) = entering bytes.now
+  call-in (Close bytes) = closing bytes.now
   call-in (Correct reading) = correcting reading
-  call-in (Settle rule) = settling (parts (now rule))
-  call-in (Sheet hour rule) = sheeting hour (parts (now rule))
+  call-in (Settle rule) = settling (parts rule.now)
+  call-in (Sheet hour rule) = sheeting hour (parts rule.now)
   call-in Issue = issuing
   call-in (Statement number) = stating number room
   call-in Reopen = reopening
@@ -57,7 +49,7 @@ module _ {R : Type 0} (parts : R → Parts) (room : ℕ) where
 pub record Replayed (calls : List Call) (answers : List Answer) (day : Day) (m : Memory) (before after : Lent) : Type 0 where
   pub events : List Event
   pub made : calls-of events ≡ calls
-  pub answered : answers-of events ≡ answers
+  pub answered : answers_of events ≡ answers
   pub left : lent-in events before ≡ after
   pub history : History events day m
   pub lawful : Always history
@@ -84,18 +76,18 @@ Stopped (call ∷ calls) day = takes day call ≡ false
 
 -- a history begins, and leaves the page and the buffer alone; or its beginning is refused
 abbrev pub Begun : Begin → Memory → Result Day Fault → Memory → Type 0
-Begun start m (Ok day) n = (l : Lent) → Replayed (first-call start (length (m .ledger)) ∷ []) (Done ∷ []) day n l l
+Begun start m (Ok day) n = (l : Lent) → Replayed (first-call start (length m.ledger) ∷ []) (Done ∷ []) day n l l
 Begun start m (Err fault) n = Refused-at start m fault n
 
 module _ {R : Type 0} (parts : R → Parts) (start : Begin) (steps : List (Step R)) (m : Memory) (before : Lent) where
   -- The steps that were made, as many as there are answers, are a history that ends in exactly this day and memory, and the
   -- laws held each time one of them ended. The first step that was not made is one that the state of the day does not take.
   pub record Ran-on (day : Day) (answers : List Answer) (n : Memory) (after : Lent) : Type 0 where
-    pub history : Replayed (first-call start (length (m .ledger)) ∷ calls-in parts (length (before .buffer)) (take (length answers) steps)) (Done ∷ answers) day n before after
-    pub stopped : Stopped (calls-in parts (length (before .buffer)) (drop (length answers) steps)) day
+    pub history : Replayed (first-call start (length m.ledger) ∷ calls-in parts (length before.buffer) (take (length answers) steps)) (Done ∷ answers) day n before after
+    pub stopped : Stopped (calls-in parts (length before.buffer) (drop (length answers) steps)) day
 
   -- what a replay comes to: a history, or a beginning that is refused, or want of memory before anything was done
   abbrev pub Ran : Result Replay NotBegun → Memory → Lent → Type 0
-  Ran (Ok out) n after = Ran-on (out .day) (vec-items (out .answers)) n after
+  Ran (Ok out) n after = Ran-on out.day (vec_items out.answers) n after
   Ran (Err (Refused fault)) n after = Refused-at start m fault n × (after ≡ before)
   Ran (Err (NoMemory e)) n after = (n ≡ m) × (after ≡ before)

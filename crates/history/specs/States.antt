@@ -1,29 +1,28 @@
 -- A day in whatever state it is.
-use mathlib.Core.Bool.{Bool, true, false, _||_}
-use Prim.Native.Nat.{ℕ}
-use Rattle·day.specs.Calls.{made-before, made-with}
-use Rattle·day.specs.declared.state.Numbers.{Numbers}
-use Rattle·history·specs.declared.states.Day.{Day}
-use Rattle·history·specs.declared.states.Day.the-variants.{Closed, Issued, Open, Settled}
+use Rattle.std.specs.Prelude.{ℕ, Bool, true, false, ◌||◌}
+use Rattle.day.specs.Calls.{made-before, made-with}
+use Rattle.day.specs.declared.state.Numbers.{Numbers}
+use Rattle.history.specs.declared.states.Day.{Day}
+use Rattle.history.specs.declared.states.Day.TheVariants.{Closed, Issued, Open, Settled}
 
-abbrev pub numbers-of : Day → Numbers
-numbers-of (Open d) = d .numbers
-numbers-of (Closed d) = d .numbers
-numbers-of (Settled d) = d .numbers
-numbers-of (Issued d) = d .numbers
+abbrev pub numbers_of : Day → Numbers
+numbers_of (Open d) = d.numbers
+numbers_of (Closed d) = d.numbers
+numbers_of (Settled d) = d.numbers
+numbers_of (Issued d) = d.numbers
 
 -- how many issues were made
 abbrev pub issues-made : Day → ℕ
-issues-made (Open d) = made-before (d .numbers)
-issues-made (Closed d) = made-before (d .numbers)
-issues-made (Settled d) = made-before (d .numbers)
-issues-made (Issued d) = made-with (d .numbers)
+issues-made (Open d) = made-before d.numbers
+issues-made (Closed d) = made-before d.numbers
+issues-made (Settled d) = made-before d.numbers
+issues-made (Issued d) = made-with d.numbers
 
-abbrev pub is-open : Day → Bool
-is-open (Open d) = true
-is-open (Closed d) = false
-is-open (Settled d) = false
-is-open (Issued d) = false
+abbrev pub is_open : Day → Bool
+is_open (Open d) = true
+is_open (Closed d) = false
+is_open (Settled d) = false
+is_open (Issued d) = false
 
 abbrev pub is-closed : Day → Bool
 is-closed (Open d) = false

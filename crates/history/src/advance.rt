@@ -1,36 +1,24 @@
 // One call of a history.
-ghost use mathlib.Core.List.{List};
-ghost use Prim.Native.Nat.{ℕ};
-ghost use lib.ListN.{length};
-ghost use Rattle·book.specs.Books.{held};
-ghost use Rattle·codes.specs.declared.table.Table.{Table};
-ghost use Rattle·day.specs.Memory.{memory};
-ghost use Rattle·history·specs.Events.{lent};
-ghost use Rattle·history·specs.Replays.{Advanced, Begun, call-in};
+ghost use Rattle.std.specs.Prelude.{ℕ, List, length};
+ghost use Rattle.book.specs.Books.{held};
+ghost use Rattle.codes.specs.declared.table.Table.{Table};
+ghost use Rattle.day.specs.Memory.{memory};
+ghost use Rattle.history.specs.Events.{lent};
+ghost use Rattle.history.specs.Replays.{Advanced, Begun, call-in};
+
 use crate::states::Day;
-use crate::steps::Advance;
-use crate::steps::Answer;
-use crate::steps::Begin;
-use crate::steps::Step;
+use crate::steps::{Advance, Answer, Begin, Step};
 use book::book::Book;
 use codes::table::Table;
 use day::correcting::correct;
-use day::entering::close;
-use day::entering::enter;
-use day::issuing::issue;
-use day::issuing::statement;
-use day::opening::load;
-use day::opening::open;
+use day::entering::{close, enter};
+use day::issuing::{issue, statement};
+use day::opening::{load, open};
 use day::refused::Refused;
 use day::reopening::reopen;
 use day::settling::settle;
-use day::sheets::IssuedTabled;
-use day::sheets::SettledTabled;
 use day::sheets::sheet;
-use day::state::Closed;
-use day::state::Issued;
-use day::state::Open;
-use day::state::Settled;
+use day::state::{Closed, Issued, Open, Settled};
 use faults::fault::Fault;
 use ledger::note::Note;
 use sharing::rule::Sharing;
@@ -42,7 +30,7 @@ fn begin_open(
     table: &mut Table,
     ledger: &mut [Note],
 ) -> Result<Day, Fault>
-    ensures { λ r. ⌜ Begun (Begin.Open (bytes .entry)) (memory (held (now (book .entry))) (now (table .entry)) (now (ledger .entry))) r (memory (held (now (book .exit))) (now (table .exit)) (now (ledger .exit))) ⌝ }
+    ensures { Begun (Begin.Open bytes.entry) (memory (held book.old) table.old ledger.old) result (memory (held book.new) table.new ledger.new) }
 {
     match open(bytes, book, table, ledger) {
         Ok(day) => Ok(Day::Open(day)),
@@ -57,7 +45,7 @@ fn begin_load(
     table: &mut Table,
     ledger: &mut [Note],
 ) -> Result<Day, Fault>
-    ensures { λ r. ⌜ Begun (Begin.Load (file .entry)) (memory (held (now (book .entry))) (now (table .entry)) (now (ledger .entry))) r (memory (held (now (book .exit))) (now (table .exit)) (now (ledger .exit))) ⌝ }
+    ensures { Begun (Begin.Load file.entry) (memory (held book.old) table.old ledger.old) result (memory (held book.new) table.new ledger.new) }
 {
     match load(file, book, table, ledger) {
         Ok(day) => Ok(Day::Closed(day)),
@@ -72,7 +60,7 @@ pub fn begin<'a>(
     table: &mut Table,
     ledger: &mut [Note],
 ) -> Result<Day, Fault>
-    ensures { λ r. ⌜ Begun (now (start .entry)) (memory (held (now (book .entry))) (now (table .entry)) (now (ledger .entry))) r (memory (held (now (book .exit))) (now (table .exit)) (now (ledger .exit))) ⌝ }
+    ensures { Begun start.now (memory (held book.old) table.old ledger.old) result (memory (held book.new) table.new ledger.new) }
 {
     match start {
         Begin::Open(bytes) => begin_open(bytes, book, table, ledger),
@@ -88,7 +76,7 @@ fn advance_open<'a, R: Sharing>(
     table: &Table,
     ledger: &[Note],
 ) -> Advance
-    ensures { λ r. ⌜ ((page : Table) (buffer : List ℕ) → Advanced (call-in (R·Sharing .parts) (length buffer) (now (step .entry))) (Day.Open day) (memory (held (now (book .entry))) (now (table .entry)) (now (ledger .entry))) (lent page buffer) r (memory (held (now (book .exit))) (now (table .entry)) (now (ledger .entry))) (lent page buffer)) ⌝ }
+    ensures { (page : Table) (buffer : List ℕ) → Advanced (call-in R.Sharing.parts (length buffer) step.now) (Day.Open day) (memory (held book.old) table.now ledger.now) (lent page buffer) result (memory (held book.new) table.now ledger.now) (lent page buffer) }
 {
     match step {
         Step::Enter(bytes) => match enter(day, bytes, book, table, ledger) {
@@ -117,7 +105,7 @@ fn advance_closed<'a, R: Sharing>(
     table: &mut Table,
     ledger: &[Note],
 ) -> Advance
-    ensures { λ r. ⌜ ((page : Table) (buffer : List ℕ) → Advanced (call-in (R·Sharing .parts) (length buffer) (now (step .entry))) (Day.Closed day) (memory (held (now (book .entry))) (now (table .entry)) (now (ledger .entry))) (lent page buffer) r (memory (held (now (book .exit))) (now (table .exit)) (now (ledger .entry))) (lent page buffer)) ⌝ }
+    ensures { (page : Table) (buffer : List ℕ) → Advanced (call-in R.Sharing.parts (length buffer) step.now) (Day.Closed day) (memory (held book.old) table.old ledger.now) (lent page buffer) result (memory (held book.new) table.new ledger.now) (lent page buffer) }
 {
     match step {
         Step::Correct(reading) => match correct(day, *reading, book, table, ledger) {
@@ -147,7 +135,7 @@ fn advance_settled<'a, R: Sharing>(
     ledger: &mut [Note],
     page: &mut Table,
 ) -> Advance
-    ensures { λ r. ⌜ ((buffer : List ℕ) → Advanced (call-in (R·Sharing .parts) (length buffer) (now (step .entry))) (Day.Settled day) (memory (held (now (book .entry))) (now (table .entry)) (now (ledger .entry))) (lent (now (page .entry)) buffer) r (memory (held (now (book .entry))) (now (table .entry)) (now (ledger .exit))) (lent (now (page .exit)) buffer)) ⌝ }
+    ensures { (buffer : List ℕ) → Advanced (call-in R.Sharing.parts (length buffer) step.now) (Day.Settled day) (memory (held book.now) table.now ledger.old) (lent page.old buffer) result (memory (held book.now) table.now ledger.new) (lent page.new buffer) }
 {
     match step {
         Step::Sheet { hour, rule } => match sheet(day, *hour, *rule, book, table, ledger, page) {
@@ -181,7 +169,7 @@ fn advance_issued<'a, R: Sharing>(
     page: &mut Table,
     buffer: &mut [u8],
 ) -> Advance
-    ensures { λ r. ⌜ Advanced (call-in (R·Sharing .parts) (length (now (buffer .entry))) (now (step .entry))) (Day.Issued day) (memory (held (now (book .entry))) (now (table .entry)) (now (ledger .entry))) (lent (now (page .entry)) (now (buffer .entry))) r (memory (held (now (book .entry))) (now (table .entry)) (now (ledger .entry))) (lent (now (page .exit)) (now (buffer .exit))) ⌝ }
+    ensures { Advanced (call-in R.Sharing.parts (length buffer.old) step.now) (Day.Issued day) (memory (held book.now) table.now ledger.now) (lent page.old buffer.old) result (memory (held book.now) table.now ledger.now) (lent page.new buffer.new) }
 {
     match step {
         Step::Sheet { hour, rule } => match sheet(day, *hour, *rule, book, table, ledger, page) {
@@ -222,7 +210,7 @@ pub fn advance<'a, R: Sharing>(
     page: &mut Table,
     buffer: &mut [u8],
 ) -> Advance
-    ensures { λ r. ⌜ Advanced (call-in (R·Sharing .parts) (length (now (buffer .entry))) (now (step .entry))) day (memory (held (now (book .entry))) (now (table .entry)) (now (ledger .entry))) (lent (now (page .entry)) (now (buffer .entry))) r (memory (held (now (book .exit))) (now (table .exit)) (now (ledger .exit))) (lent (now (page .exit)) (now (buffer .exit))) ⌝ }
+    ensures { Advanced (call-in R.Sharing.parts (length buffer.old) step.now) day (memory (held book.old) table.old ledger.old) (lent page.old buffer.old) result (memory (held book.new) table.new ledger.new) (lent page.new buffer.new) }
 {
     match day {
         Day::Open(day) => advance_open(day, step, book, table, ledger),

@@ -1,21 +1,21 @@
 // What holds of every history, for whoever makes the calls one by one.
-ghost use Rattle·history·specs.Laws.{Calls-determine-histories, Every-history-keeps-the-laws, Memory-stays-sound, No-call-finds-memory-unsound};
+ghost use Rattle.history.specs.Laws.{Calls-determine-histories, Every-history-keeps-the-laws, Memory-stays-sound, No-call-finds-memory-unsound};
 
 pub fn histories_keep_the_laws() -> u8
-    ensures { λ _. ⌜ Every-history-keeps-the-laws ⌝ }
+    ensures { Every-history-keeps-the-laws }
 {
     0
 }
 
 pub fn calls_determine_histories() -> u8
-    ensures { λ _. ⌜ Calls-determine-histories ⌝ }
+    ensures { Calls-determine-histories }
 {
     0
 }
 
 pub fn memory_stays_sound() -> u8
-    ensures stays { λ _. ⌜ Memory-stays-sound ⌝ }
-    ensures never { λ _. ⌜ No-call-finds-memory-unsound ⌝ }
+    ensures stays { Memory-stays-sound }
+    ensures never { No-call-finds-memory-unsound }
 {
     0
 }

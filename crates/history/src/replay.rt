@@ -1,23 +1,14 @@
 // A history from its beginning.
-ghost use mathlib.Core.Path.{_≡_};
-ghost use mathlib.Core.List.{[]};
-ghost use Prim.Native.Nat.{_≤_};
-ghost use lib.ListN.{length};
-ghost use Rattle·std.specs.Of.Vec.{vec-cap, vec-items};
-ghost use Rattle·book.specs.Books.{held};
-ghost use Rattle·day.specs.Memory.{memory};
-ghost use Rattle·history·specs.Events.{lent};
-ghost use Rattle·history·specs.Laws.{Every-history-keeps-the-laws};
-ghost use Rattle·history·specs.Replays.{Ran};
-use crate::advance::advance;
-use crate::advance::begin;
+ghost use Rattle.std.specs.Prelude.{◌≡◌, ◌≤◌, [], length, vec_capacity};
+ghost use Rattle.book.specs.Books.{held};
+ghost use Rattle.day.specs.Memory.{memory};
+ghost use Rattle.history.specs.Events.{lent};
+ghost use Rattle.history.specs.Laws.{Every-history-keeps-the-laws};
+ghost use Rattle.history.specs.Replays.{Ran};
+
+use crate::advance::{advance, begin};
 use crate::laws::histories_keep_the_laws;
-use crate::steps::Advance;
-use crate::steps::Answer;
-use crate::steps::Begin;
-use crate::steps::NotBegun;
-use crate::steps::Replay;
-use crate::steps::Step;
+use crate::steps::{Advance, Answer, Begin, NotBegun, Replay, Step};
 use book::book::Book;
 use codes::table::Table;
 use ledger::note::Note;
@@ -35,9 +26,9 @@ fn make_steps<'a, R: Sharing>(
     page: &mut Table,
     buffer: &mut [u8],
 ) -> Result<Replay, NotBegun>
-    requires none { ⌜ vec-items answers ≡ [] ⌝ }
-    requires room { ⌜ length (now steps) ≤ vec-cap answers ⌝ }
-    ensures { λ r. ⌜ Ran (R·Sharing .parts) (now (start .entry)) (now (steps .entry)) (memory (held (now (book .entry))) (now (table .entry)) (now (ledger .entry))) (lent (now (page .entry)) (now (buffer .entry))) r (memory (held (now (book .exit))) (now (table .exit)) (now (ledger .exit))) (lent (now (page .exit)) (now (buffer .exit))) ⌝ }
+    requires none { answers.items ≡ [] }
+    requires room { length steps.now ≤ vec_capacity answers }
+    ensures { Ran R.Sharing.parts start.now steps.now (memory (held book.old) table.old ledger.old) (lent page.old buffer.old) result (memory (held book.new) table.new ledger.new) (lent page.new buffer.new) }
 {
     let mut answers = answers;
     let mut day = match begin(start, book, table, ledger) {
@@ -69,8 +60,8 @@ pub fn replay<'a, R: Sharing>(
     page: &mut Table,
     buffer: &mut [u8],
 ) -> Result<Replay, NotBegun>
-    ensures run { λ r. ⌜ Ran (R·Sharing .parts) (now (start .entry)) (now (steps .entry)) (memory (held (now (book .entry))) (now (table .entry)) (now (ledger .entry))) (lent (now (page .entry)) (now (buffer .entry))) r (memory (held (now (book .exit))) (now (table .exit)) (now (ledger .exit))) (lent (now (page .exit)) (now (buffer .exit))) ⌝ }
-    ensures every { λ _. ⌜ Every-history-keeps-the-laws ⌝ }
+    ensures run { Ran R.Sharing.parts start.now steps.now (memory (held book.old) table.old ledger.old) (lent page.old buffer.old) result (memory (held book.new) table.new ledger.new) (lent page.new buffer.new) }
+    ensures every { Every-history-keeps-the-laws }
 {
     let _ = histories_keep_the_laws();
     match Vec::with_capacity(heap, steps.len()) {

@@ -1,11 +1,8 @@
 // A day in whatever state it is.
-ghost use mathlib.Core.Path.{_≡_};
-ghost use Rattle·history·specs.States.{numbers-of};
-use day::state::Closed;
-use day::state::Issued;
-use day::state::Numbers;
-use day::state::Open;
-use day::state::Settled;
+ghost use Rattle.std.specs.Prelude.{◌≡◌};
+ghost use Rattle.history.specs.States.{numbers_of};
+
+use day::state::{Closed, Issued, Numbers, Open, Settled};
 
 pub enum Day {
     Open(Open),
@@ -17,7 +14,7 @@ pub enum Day {
 impl Day {
     // No day can be dropped. Who has no more use for it takes its numbers.
     pub fn into_numbers(self) -> Numbers
-        ensures { λ r. ⌜ r ≡ numbers-of self ⌝ }
+        ensures { result ≡ numbers_of self }
     {
         match self {
             Day::Open(day) => day.into_numbers(),

@@ -1,9 +1,7 @@
 -- The larger of 0 and an amount.
-use Prim.Native.Nat.{_≤_}
-use native.Mathlib.Omega.{arith}
-use lib.IntN.{ℤ, pos, negsuc, natAbs}
-use Rattle·items·specs.Items.{at-least-zero}
+use Rattle.std.proofs.Common.{◌≤◌, ℤ, pos, negsuc, nat_abs, arith}
+use Rattle.items.specs.Items.{at-least-zero}
 
-pub zero-le : (z : ℤ) → natAbs (at-least-zero z) ≤ natAbs z
+pub zero-le : (z : ℤ) → nat_abs (at-least-zero z) ≤ nat_abs z
 zero-le (pos n) = omega arith
 zero-le (negsuc n) = omega arith

@@ -1,32 +1,25 @@
 -- What an issue adds to a ledger.
-use mathlib.Core.Bool.{cond, _&&_}
-use mathlib.Core.List.{List, [], _∷_}
-use Prim.Native.Nat.{ℕ, zero, suc, _+_}
-use lib.Dec.{eqb, leb}
-use lib.IntN.{ℤ, pos, negsuc, _-ℤ_}
-use lib.ListN.{length, take}
-use Rattle·std.specs.Joined.{joined}
-use Rattle·std.specs.declared.result.Result.{Result}
-use Rattle·std.specs.declared.result.Result.the-variants.{Ok, Err}
-use Rattle·codes.specs.Cells.{cell}
-use Rattle·codes.specs.Codes.{all-codes, code-number}
-use Rattle·codes.specs.Parties.{party-numbers}
-use Rattle·codes.specs.Sums.{sum-over}
-use Rattle·codes.specs.declared.code.Code.{Code}
-use Rattle·codes.specs.declared.table.Table.{Table}
-use Rattle·faults.specs.Places.{plain}
-use Rattle·faults.specs.declared.fault.Fault.{Fault}
-use Rattle·faults.specs.declared.refusal.Refusal.the-variants.{LedgerFull}
-use Rattle·text.specs.Written.{written}
-use Rattle·ledger·specs.declared.note.Note.{Note}
+use Rattle.std.specs.Prelude.{ℕ, zero, suc, ◌+◌, cond, ◌&&◌, List, [], ◌∷◌, length, take, ℤ, pos, negsuc, ◌-ℤ◌, Ok, Err, Result, ◌==◌, nat_le}
+use Rattle.std.specs.List.{flat_map}
+use Rattle.codes.specs.Cells.{cell}
+use Rattle.codes.specs.Codes.{all_codes, code-number}
+use Rattle.codes.specs.Parties.{party-numbers}
+use Rattle.codes.specs.Sums.{sum_over}
+use Rattle.codes.specs.declared.code.Code.{Code}
+use Rattle.codes.specs.declared.table.Table.{Table}
+use Rattle.faults.specs.Places.{plain}
+use Rattle.faults.specs.declared.fault.Fault.{Fault}
+use Rattle.faults.specs.declared.refusal.Refusal.TheVariants.{LedgerFull}
+use Rattle.text.specs.Written.{written}
+use Rattle.ledger.specs.declared.note.Note.{Note}
 
 -- what a note counts for under a code and a party: its amount, if it is of both
 abbrev pub counted : Code → ℕ → Note → ℤ
-counted code party n = cond (eqb (n .code) (code-number code) && eqb (n .party) party) (n .amount) (pos 0)
+counted code party n = cond (n.code == code-number code && n.party == party) n.amount (pos 0)
 
 -- what notes add up to under a code and a party
 abbrev pub noted : List Note → Code → ℕ → ℤ
-noted notes code party = sum-over (counted code party) notes
+noted notes code party = sum_over (counted code party) notes
 
 -- the same for the first entries of a ledger
 abbrev pub earlier : List Note → ℕ → Code → ℕ → ℤ
@@ -40,11 +33,11 @@ note-for number code party (negsuc n) = record { issue = number; code = code-num
 
 -- a note for each of the parties under a code, by what f has for the two
 unfoldable pub row-notes : ℕ → (Code → ℕ → ℤ) → List ℕ → Code → List Note
-row-notes number f parties code = joined (λ party. note-for number code party (f code party)) parties
+row-notes number f parties code = flat_map (λ party. note-for number code party (f code party)) parties
 
 -- by code and then party, all codes with all parties
 unfoldable pub notes-of : ℕ → (Code → ℕ → ℤ) → List Note
-notes-of number f = joined (row-notes number f party-numbers) all-codes
+notes-of number f = flat_map (row-notes number f party-numbers) all_codes
 
 -- the notes that an issue adds: what each cell has over its earlier notes
 abbrev pub new-notes : List Note → ℕ → ℕ → Table → List Note
@@ -52,8 +45,8 @@ new-notes ledger count number t = notes-of number (λ code party. cell t code pa
 
 -- an issue answers how many notes it added, or that the ledger has no room for them
 abbrev pub issue-answer : List Note → ℕ → List Note → Result ℕ Fault
-issue-answer ledger count new = cond (leb (count + length new) (length ledger)) (Ok (length new)) (Err (plain LedgerFull))
+issue-answer ledger count new = cond (nat_le (count + length new) (length ledger)) (Ok (length new)) (Err (plain LedgerFull))
 
 -- and leaves them behind the earlier ones, every other entry as it was, or leaves all as it was
 abbrev pub issue-leaves : List Note → ℕ → List Note → List Note
-issue-leaves ledger count new = cond (leb (count + length new) (length ledger)) (written ledger count new) ledger
+issue-leaves ledger count new = cond (nat_le (count + length new) (length ledger)) (written ledger count new) ledger

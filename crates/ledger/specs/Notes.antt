@@ -1,44 +1,38 @@
 -- Notes, and when those of a ledger are sound.
-use mathlib.Core.Bool.{Bool, true, not, _&&_, _||_}
-use mathlib.Core.List.{List, [], _∷_}
-use Prim.Native.Nat.{ℕ}
-use lib.Dec.{eqb, leb, ltb}
-use lib.IntN.{ℤ, pos, natAbs}
-use lib.ListN.{length, replicate, take}
-use Rattle·std.specs.Options.{isSome}
-use Rattle·codes.specs.Codes.{code-of}
-use Rattle·codes.specs.Parties.{party-place}
-use Rattle·codes.specs.declared.table.Table.{Table}
-use Rattle·ledger·specs.declared.note.Note.{Note}
+use Rattle.std.specs.Prelude.{ℕ, Bool, true, not, ◌&&◌, ◌||◌, List, [], ◌∷◌, length, take, replicate, ℤ, pos, is_some, ◌==◌, nat_le, nat_lt, unsigned_abs}
+use Rattle.codes.specs.Codes.{code_of}
+use Rattle.codes.specs.Parties.{party-place}
+use Rattle.codes.specs.declared.table.Table.{Table}
+use Rattle.ledger.specs.declared.note.Note.{Note}
 
 -- the largest magnitude of a note's amount and of a cell, in mils
 abbrev pub amount-limit : ℕ
 amount-limit = 100000000000000000
 
 abbrev pub within : ℤ → Bool
-within amount = leb (natAbs amount) amount-limit
+within amount = nat_le (unsigned_abs amount) amount-limit
 
 -- an emptied entry, which is no note; every note comes after it
-abbrev pub no-note : Note
-no-note = record { issue = 0; code = 0; party = 0; amount = pos 0 }
+abbrev pub no_note : Note
+no_note = record { issue = 0; code = 0; party = 0; amount = pos 0 }
 
 -- as many emptied entries
 abbrev pub cleared : List Note → List Note
-cleared ledger = replicate (length ledger) no-note
+cleared ledger = replicate (length ledger) no_note
 
 -- by issue, then code, then party
 abbrev pub precedes : Note → Note → Bool
 precedes a b =
-    ltb (a .issue) (b .issue) || (eqb (a .issue) (b .issue)
-    && (ltb (a .code) (b .code) || (eqb (a .code) (b .code) && ltb (a .party) (b .party))))
+    nat_lt a.issue b.issue || (a.issue == b.issue
+    && (nat_lt a.code b.code || (a.code == b.code && nat_lt a.party b.party)))
 
 -- there is such a code, and such a party
 unfoldable pub known : Note → Bool
-known n = isSome (code-of (n .code)) && isSome (party-place (n .party))
+known n = is_some (code_of n.code) && is_some (party-place n.party)
 
 -- a known code and party, an amount other than 0 within the limit, and one of the issues made
 abbrev pub sound-note : ℕ → Note → Bool
-sound-note issues n = known n && (within (n .amount) && (not (eqb (natAbs (n .amount)) 0) && ltb (n .issue) issues))
+sound-note issues n = known n && (within n.amount && (not (unsigned_abs n.amount == 0) && nat_lt n.issue issues))
 
 -- it is sound and comes after y
 abbrev pub sound-next : ℕ → Note → Note → Bool
@@ -50,11 +44,11 @@ sound-after issues y [] = true
 sound-after issues y (x ∷ xs) = sound-next issues y x && sound-after issues x xs
 
 abbrev pub sound-list : ℕ → List Note → Bool
-sound-list issues notes = sound-after issues no-note notes
+sound-list issues notes = sound-after issues no_note notes
 
 -- the first entries of a ledger, as many as the note count says, are sound notes of so many issues
 abbrev pub sound-notes : List Note → ℕ → ℕ → Bool
-sound-notes ledger count issues = leb count (length ledger) && sound-list issues (take count ledger)
+sound-notes ledger count issues = nat_le count (length ledger) && sound-list issues (take count ledger)
 
 abbrev pub all-within : List ℤ → Bool
 all-within [] = true
@@ -62,4 +56,4 @@ all-within (z ∷ zs) = within z && all-within zs
 
 -- no cell of a table passes the limit
 unfoldable pub within-limit : Table → Bool
-within-limit t = all-within (t .cells)
+within-limit t = all-within t.cells

@@ -1,18 +1,13 @@
 -- What the steps of an issue ask and promise one another.
-use mathlib.Core.Bool.{true}
-use mathlib.Core.List.{List}
-use mathlib.Core.Path.{_≡_}
-use Prim.Native.Nat.{ℕ, _<_, _≤_}
-use lib.IntN.{ℤ, natAbs, _-ℤ_}
-use lib.ListN.{getD, length, take}
-use Rattle·codes.specs.Cells.{cell}
-use Rattle·codes.specs.Parties.{party-numbers}
-use Rattle·codes.specs.declared.code.Code.{Code}
-use Rattle·codes.specs.declared.code.CodeRow.{CodeRow}
-use Rattle·codes.specs.declared.table.Table.{Table}
-use Rattle·ledger·specs.Issues.{counted, noted, row-notes}
-use Rattle·ledger·specs.Notes.{known, no-note}
-use Rattle·ledger·specs.declared.note.Note.{Note}
+use Rattle.std.specs.Prelude.{◌≡◌, ℕ, ◌<◌, ◌≤◌, true, List, length, take, ℤ, ◌-ℤ◌, slice_index_or, unsigned_abs}
+use Rattle.codes.specs.Cells.{cell}
+use Rattle.codes.specs.Parties.{party-numbers}
+use Rattle.codes.specs.declared.code.Code.{Code}
+use Rattle.codes.specs.declared.code.CodeRow.{CodeRow}
+use Rattle.codes.specs.declared.table.Table.{Table}
+use Rattle.ledger.specs.Issues.{counted, noted, row-notes}
+use Rattle.ledger.specs.Notes.{known, no_note}
+use Rattle.ledger.specs.declared.note.Note.{Note}
 
 -- a magnitude that 64 bits hold
 abbrev pub holdable : ℕ
@@ -25,13 +20,13 @@ pub record TakenOff (t u : Table) (f : Code → ℕ → ℤ) : Type 0 where
 -- a note of a known code and party, and no cell that it leaves too large to hold
 pub record Takeable (t : Table) (n : Note) : Type 0 where
   pub coded : known n ≡ true
-  pub small : (code : Code) (party : ℕ) → natAbs (cell t code party -ℤ counted code party n) ≤ holdable
+  pub small : (code : Code) (party : ℕ) → unsigned_abs (cell t code party -ℤ counted code party n) ≤ holdable
 
 -- the same for notes, one after another
 pub record AllTakeable (t : Table) (notes : List Note) : Type 0 where
-  pub coded : (i : ℕ) → i < length notes → known (getD notes i no-note) ≡ true
-  pub small : (i : ℕ) (code : Code) (party : ℕ) → natAbs (cell t code party -ℤ noted (take i notes) code party) ≤ holdable
+  pub coded : (i : ℕ) → i < length notes → known (slice_index_or notes i no_note) ≡ true
+  pub small : (i : ℕ) (code : Code) (party : ℕ) → unsigned_abs (cell t code party -ℤ noted (take i notes) code party) ≤ holdable
 
 -- the notes of a code's row in the table of codes
 abbrev pub rows-notes : ℕ → (Code → ℕ → ℤ) → CodeRow → List Note
-rows-notes number f row = row-notes number f party-numbers (row .code)
+rows-notes number f row = row-notes number f party-numbers row.code

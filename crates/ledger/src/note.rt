@@ -1,6 +1,6 @@
 // A note of the ledger.
-ghost use mathlib.Core.Path.{_≡_};
-ghost use Rattle·ledger·specs.Notes.{cleared, no-note, precedes};
+ghost use Rattle.std.specs.Prelude.{◌≡◌};
+ghost use Rattle.ledger.specs.Notes.{cleared, no_note, precedes};
 
 // The largest magnitude of a note's amount and of a cell, in mils.
 pub const AMOUNT_LIMIT: u64 = 100_000_000_000_000_000;
@@ -18,7 +18,7 @@ pub struct Note {
 impl Note {
     // An emptied entry, which is no note: its code is none.
     pub fn none() -> Note
-        ensures { λ r. ⌜ r ≡ no-note ⌝ }
+        ensures { result ≡ no_note }
     {
         Note {
             issue: 0,
@@ -30,7 +30,7 @@ impl Note {
 
     // Does this note come before the other: by issue, then code, then party?
     pub fn precedes(&self, other: &Note) -> bool
-        ensures { λ r. ⌜ r ≡ precedes (now (self .entry)) (now (other .entry)) ⌝ }
+        ensures { result ≡ precedes self.now other.now }
     {
         self.issue < other.issue
             || self.issue == other.issue
@@ -40,7 +40,7 @@ impl Note {
 
 // Empties every entry.
 pub fn clear(ledger: &mut [Note])
-    ensures { λ _. ⌜ now (ledger .exit) ≡ cleared (now (ledger .entry)) ⌝ }
+    ensures { ledger.new ≡ cleared ledger.old }
 {
     for entry in ledger.iter_mut() {
         *entry = Note::none();

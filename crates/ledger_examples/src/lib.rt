@@ -8,11 +8,9 @@ mod tests {
     use faults::refusal::Refusal;
     use ledger::issue::issue;
     use ledger::note::Note;
-    use ledger::sound::are_sound;
-    use ledger::sound::is_within;
+    use ledger::sound::{are_sound, is_within};
     use statement::issued::statement;
-    use std::test::Note as _;
-    use std::test::*;
+    use std::test::Fail;
 
     // Issues the table, or answers that the memory is unsound.
     fn issue_on(
@@ -62,16 +60,16 @@ mod tests {
     }
 
     #[test]
-    fn sound_notes() -> Result<(), Fail> {
+    fn sound_notes(rt: HostRuntime) -> Result<(), Fail> {
         let ledger = [
             note(0, 1, 1, 150),
             note(0, 1, 2, -100),
             note(1, 10, 41, -100_000_000_000_000_000),
             note(9, 9, 9, 0),
         ];
-        check(are_sound(&ledger, 3, 2))?;
-        check(are_sound(&ledger, 0, 0))?;
-        check(!are_sound(&ledger, 4, 2))?;
+        assert!(rt; are_sound(&ledger, 3, 2));
+        assert!(rt; are_sound(&ledger, 0, 0));
+        assert!(rt; !are_sound(&ledger, 4, 2));
         check(!are_sound(&ledger, 3, 1)).note("issue 1 was not made")?;
         check(!are_sound(&ledger, 5, 2)).note("a note count beyond the ledger")
     }
@@ -92,25 +90,25 @@ mod tests {
     }
 
     #[test]
-    fn issues() -> Result<(), Fail> {
+    fn issues(rt: HostRuntime) {
         let mut table = Table::new();
         table.put(Code::A1, 1, 150);
         table.put(Code::F2, 41, -150);
         let mut short = [note(7, 7, 7, 7)];
-        check_eq(told(issue_on(&mut short, 0, 0, &table)), 1013)?;
-        check_eq(short[0].amount, 7)?;
+        assert_eq!(rt; told(issue_on(&mut short, 0, 0, &table)), 1013);
+        assert_eq!(rt; short[0].amount, 7);
         let mut ledger = [note(7, 7, 7, 7); 4];
-        check_eq(told(issue_on(&mut ledger, 0, 0, &table)), 2)?;
-        check(ledger[0].amount == 150 && ledger[1].code == 10 && ledger[1].amount == -150)?;
-        check_eq(told(issue_on(&mut ledger, 2, 1, &table)), 0)?;
+        assert_eq!(rt; told(issue_on(&mut ledger, 0, 0, &table)), 2);
+        assert!(rt; ledger[0].amount == 150 && ledger[1].code == 10 && ledger[1].amount == -150);
+        assert_eq!(rt; told(issue_on(&mut ledger, 2, 1, &table)), 0);
         table.put(Code::A1, 1, 120);
-        check_eq(told(issue_on(&mut ledger, 2, 1, &table)), 1)?;
-        check(ledger[2].issue == 1 && ledger[2].party == 1 && ledger[2].amount == -30)?;
-        check_eq(ledger[3].amount, 7)
+        assert_eq!(rt; told(issue_on(&mut ledger, 2, 1, &table)), 1);
+        assert!(rt; ledger[2].issue == 1 && ledger[2].party == 1 && ledger[2].amount == -30);
+        assert_eq!(rt; ledger[3].amount, 7);
     }
 
     #[test]
-    fn statements() -> Result<(), Fail> {
+    fn statements(rt: HostRuntime) -> Result<(), Fail> {
         let Some(heading) = Heading::new(2019, 3, 5, 24, 3, 1, 1) else {
             return check(false).note("no heading");
         };
@@ -120,14 +118,18 @@ mod tests {
             note(1, 10, 41, -1),
         ];
         let mut exact = [7; 60];
-        check_eq(told(state_on(&heading, &ledger, 3, 2, 0, &mut exact)), 60)?;
-        check(exact == *b"DAY 2019-03-05 24 0\nA1 1 P 150000000\nA1 2 C 100000000\nEND 2\n")?;
+        assert_eq!(rt; told(state_on(&heading, &ledger, 3, 2, 0, &mut exact)), 60);
+        assert!(rt; exact == *b"DAY 2019-03-05 24 0\nA1 1 P 150000000\nA1 2 C 100000000\nEND 2\n");
         let mut short = [7; 59];
-        check_eq(told(state_on(&heading, &ledger, 3, 2, 0, &mut short)), 1015)?;
-        check(short == [7; 59])?;
+        assert_eq!(rt;
+            told(state_on(&heading, &ledger, 3, 2, 0, &mut short)),
+            1015
+        );
+        assert!(rt; short == [7; 59]);
         let mut wide = [7; 38];
-        check_eq(told(state_on(&heading, &ledger, 3, 2, 1, &mut wide)), 36)?;
-        check(wide == *b"DAY 2019-03-05 24 1\nF2 41 C 1\nEND 1\n\x07\x07")?;
-        check_eq(told(state_on(&heading, &ledger, 3, 2, 2, &mut wide)), 1005)
+        assert_eq!(rt; told(state_on(&heading, &ledger, 3, 2, 1, &mut wide)), 36);
+        assert!(rt; wide == *b"DAY 2019-03-05 24 1\nF2 41 C 1\nEND 1\n\x07\x07");
+        assert_eq!(rt; told(state_on(&heading, &ledger, 3, 2, 2, &mut wide)), 1005);
+        Ok(())
     }
 }

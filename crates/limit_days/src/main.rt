@@ -1,16 +1,12 @@
 // Day files at the limits of their fields. Each line of standard input is a name and a file in hexadecimal digits, `-` for no
 // bytes; for each it prints the name, and then what is printed of the file.
+use anyhow::anyhow;
 use book::book::Book;
 use codes::table::Table;
-use day_text::print::LEDGER_ROOM;
-use day_text::print::TEXT_ROOM;
-use day_text::print::print_day;
+use day_text::print::{LEDGER_ROOM, TEXT_ROOM, print_day};
 use ledger::note::Note;
-use std::alloc::AllocError;
-use std::alloc::Global;
-use std::error::AnyError;
-use std::io::Read;
-use std::io::Write;
+use std::alloc::{AllocError, Global};
+use std::io::{Read, Write};
 
 fn digit(b: u8) -> Option<u8> {
     match b {
@@ -43,7 +39,7 @@ fn bytes_of(heap: Global, hex: &str) -> Result<Option<Vec<u8>>, AllocError> {
     Ok(Some(bytes))
 }
 
-fn print(rt: &LibcRuntime, book: &mut Book, file: &[u8]) -> Result<(), AnyError> {
+fn print(rt: &HostRuntime, book: &mut Book, file: &[u8]) -> anyhow::Result<()> {
     let mut table = Table::new();
     let mut ledger = [Note::none(); LEDGER_ROOM];
     let mut buffer = [0u8; TEXT_ROOM];
@@ -52,16 +48,16 @@ fn print(rt: &LibcRuntime, book: &mut Book, file: &[u8]) -> Result<(), AnyError>
     Ok(())
 }
 
-fn print_line(rt: &LibcRuntime, book: &mut Book, name: &str, hex: &str) -> Result<(), AnyError> {
-    println!(rt, "{name}")?;
+fn print_line(rt: &HostRuntime, book: &mut Book, name: &str, hex: &str) -> anyhow::Result<()> {
+    println!(rt; "{name}")?;
     let digits = if hex == "-" { "" } else { hex };
     match bytes_of(rt.alloc(), digits)? {
         Some(file) => print(rt, book, file.as_slice()),
-        None => Err("not in hexadecimal digits".into()),
+        None => Err(anyhow!("not in hexadecimal digits")),
     }
 }
 
-fn run(rt: &LibcRuntime) -> Result<(), AnyError> {
+fn run(rt: &HostRuntime) -> anyhow::Result<()> {
     let mut text = String::new(rt.alloc());
     rt.stdin().read_to_string(&mut text)?;
     let mut book = Book::new(rt.alloc())?;
@@ -73,6 +69,6 @@ fn run(rt: &LibcRuntime) -> Result<(), AnyError> {
     Ok(())
 }
 
-fn main(rt: LibcRuntime) -> Result<(), AnyError> {
-    rt.report(run(&rt))
+fn main(rt: HostRuntime) -> anyhow::Result<()> {
+    run(&rt)
 }

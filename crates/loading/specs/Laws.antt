@@ -1,25 +1,19 @@
 -- What an accepted load is, in terms of the calls that it stands for.
-use Prim.Native.Nat.{ℕ}
-use mathlib.Core.Bool.{true}
-use mathlib.Core.Path.{_≡_}
-use mathlib.Core.List.{List, [], _∷_, _++_}
-use Rattle·std.specs.Joined.{joined}
-use Rattle·std.specs.declared.option.Option.the-variants.{None}
-use Rattle·std.specs.declared.result.Result.{Result}
-use Rattle·std.specs.declared.result.Result.the-variants.{Ok}
-use Rattle·faults.specs.declared.fault.Fault.{Fault}
-use Rattle·dayfile.specs.Records.{Records}
-use Rattle·dayfile.specs.declared.heading.Heading.{Heading}
-use Rattle·decoding.specs.Decoded.{and-then, decoded-heading}
-use Rattle·book.specs.Books.{admitted, no-records, with-record}
-use Rattle·book.specs.Soundness.{sound-records}
-use Rattle·closing.specs.Prices.{closing, first-unpriced}
-use Rattle·loading·specs.Loading.{file-records}
+use Rattle.std.specs.Prelude.{◌≡◌, ℕ, true, List, [], ◌∷◌, ◌++◌, None, Ok, Result}
+use Rattle.std.specs.List.{flat_map}
+use Rattle.faults.specs.declared.fault.Fault.{Fault}
+use Rattle.dayfile.specs.Records.{Records}
+use Rattle.dayfile.specs.declared.heading.Heading.{Heading}
+use Rattle.decoding.specs.Decoded.{and_then, decoded-heading}
+use Rattle.book.specs.Books.{admitted, no-records, with-record}
+use Rattle.book.specs.Soundness.{sound-records}
+use Rattle.closing.specs.Prices.{closing, first-unpriced}
+use Rattle.loading.specs.Loading.{file-records}
 
 -- the records after each of these was entered, in this order, or the first fault
 abbrev pub entered-in-turn : Records → List (List ℕ) → Result Records Fault
 entered-in-turn b [] = Ok b
-entered-in-turn b (part ∷ parts) = and-then (admitted b part) (λ x. entered-in-turn (with-record b x) parts)
+entered-in-turn b (part ∷ parts) = and_then (admitted b part) (λ x. entered-in-turn (with-record b x) parts)
 
 -- a file of a heading, records and an end that the three calls accept one after the other, and the records that they leave
 pub record Accepted (file : List ℕ) (b : Records) : Type 0 where
@@ -27,7 +21,7 @@ pub record Accepted (file : List ℕ) (b : Records) : Type 0 where
   pub parts : List (List ℕ)
   pub last : List ℕ
   pub heading : Heading
-  pub whole : file ≡ first ++ (joined (λ part. part) parts ++ last)
+  pub whole : file ≡ first ++ (flat_map (λ part. part) parts ++ last)
   pub opens : decoded-heading first ≡ Ok heading
   pub enters : entered-in-turn (no-records heading) parts ≡ Ok b
   pub closes : closing b last ≡ Ok tt

@@ -1,61 +1,54 @@
 -- A file loaded into a book: its first record opens the book, each record after it is entered, and the first end record closes it.
-use Prim.Native.Nat.{ℕ, zero, suc, _+_, _<_}
-use mathlib.Core.Bool.{Bool, cond}
-use mathlib.Core.List.{List}
-use lib.Dec.{eqb}
-use lib.ListN.{length}
-use Rattle·std.specs.Results.{isOk}
-use Rattle·std.specs.declared.result.Result.{Result}
-use Rattle·std.specs.declared.result.Result.the-variants.{Ok, Err}
-use Rattle·faults.specs.Places.{plain, reading-at}
-use Rattle·faults.specs.declared.fault.Fault.{Fault}
-use Rattle·faults.specs.declared.refusal.Refusal.the-variants.{UnknownMark, WrongCount}
-use Rattle·dayfile.specs.Records.{Records}
-use Rattle·dayfile.specs.declared.heading.Heading.{Heading}
-use Rattle·dayfile.specs.declared.record.Record.{Record}
-use Rattle·decoding.specs.Decoded.{and-then, decoded-end, decoded-heading}
-use Rattle·cutting.specs.Cuts.{cut-at, past}
-use Rattle·book.specs.Books.{admitted, no-records, with-record}
-use Rattle·closing.specs.Prices.{closing}
-use Rattle·loading·specs.declared.turn.Turn.{Turn}
-use Rattle·loading·specs.declared.turn.Turn.the-variants.{More, Over}
+use Rattle.std.specs.Prelude.{ℕ, zero, suc, ◌+◌, ◌<◌, Bool, cond, List, length, is_ok, Ok, Err, Result, ◌==◌}
+use Rattle.faults.specs.Places.{plain, reading-at}
+use Rattle.faults.specs.declared.fault.Fault.{Fault}
+use Rattle.faults.specs.declared.refusal.Refusal.TheVariants.{UnknownMark, WrongCount}
+use Rattle.dayfile.specs.Records.{Records}
+use Rattle.dayfile.specs.declared.heading.Heading.{Heading}
+use Rattle.dayfile.specs.declared.record.Record.{Record}
+use Rattle.decoding.specs.Decoded.{and_then, decoded-end, decoded-heading}
+use Rattle.cutting.specs.Cuts.{cut_at, past}
+use Rattle.book.specs.Books.{admitted, no-records, with-record}
+use Rattle.closing.specs.Prices.{closing}
+use Rattle.loading.specs.declared.turn.Turn.{Turn}
+use Rattle.loading.specs.declared.turn.Turn.TheVariants.{More, Over}
 
 -- what comes of one record: the load goes on at an offset with these records, or is over
 pub data Step : Type 0 where
-  goes-on : ℕ → Records → Step
+  goes_on : ℕ → Records → Step
   is-over : Result Records Fault → Step
 
 -- a fault is at the offset of the record that was reached
-abbrev pub at-offset : {X : Type 0} → ℕ → Result X Fault → Result X Fault
-at-offset offset (Ok x) = Ok x
-at-offset offset (Err f) = Err (reading-at offset f)
+abbrev pub at_offset : {X : Type 0} → ℕ → Result X Fault → Result X Fault
+at_offset offset (Ok x) = Ok x
+at_offset offset (Err f) = Err (reading-at offset f)
 
 -- a record was entered or refused
 abbrev pub after-entry : ℕ → Records → Result Record Fault → Step
-after-entry next b (Ok x) = goes-on next (with-record b x)
+after-entry next b (Ok x) = goes_on next (with-record b x)
 after-entry next b (Err f) = is-over (Err f)
 
 -- the end record closes the book, unless bytes follow it
 abbrev pub after-end : Bool → Records → List ℕ → Result Records Fault
-after-end last b part = and-then (cond last (closing b part) (Err (plain WrongCount))) (λ _. Ok b)
+after-end last b part = and_then (cond last (closing b part) (Err (plain WrongCount))) (λ _. Ok b)
 
 -- the end record, or one to be entered
 abbrev pub after-record : Bool → ℕ → Records → List ℕ → Step
 after-record last offset b part =
-    cond (isOk (decoded-end part))
-    (is-over (at-offset offset (after-end last b part)))
-    (after-entry (offset + length part) b (at-offset offset (admitted b part)))
+    cond (is_ok (decoded-end part))
+    (is-over (at_offset offset (after-end last b part)))
+    (after-entry (offset + length part) b (at_offset offset (admitted b part)))
 
 abbrev pub after-cut : List ℕ → ℕ → Records → Result (List ℕ) Fault → Step
-after-cut file offset b (Ok part) = after-record (eqb (offset + length part) (length file)) offset b part
+after-cut file offset b (Ok part) = after-record (offset + length part == length file) offset b part
 after-cut file offset b (Err f) = is-over (Err f)
 
 -- the record at the offset
 abbrev pub step : List ℕ → ℕ → Records → Step
-step file offset b = after-cut file offset b (cut-at file offset)
+step file offset b = after-cut file offset b (cut_at file offset)
 
 abbrev pub follow : (ℕ → Records → Result Records Fault) → Step → Result Records Fault
-follow next (goes-on offset b) = next offset b
+follow next (goes_on offset b) = next offset b
 follow next (is-over answer) = answer
 
 -- the records from an offset on, up to the end record, in at most n turns; no load comes to 0 turns
@@ -65,15 +58,15 @@ records-from (suc n) file offset b = follow (records-from n file) (step file off
 
 -- the heading that a file begins with
 abbrev pub opening : List ℕ → Result Heading Fault
-opening file = and-then (cut-at file 0) decoded-heading
+opening file = and_then (cut_at file 0) decoded-heading
 
 -- the records of a file after its heading, or the first fault among them; no file has more records than bytes
 abbrev pub records-under : List ℕ → Heading → Result Records Fault
-records-under file heading = records-from (suc (length file)) file (past 0 (cut-at file 0)) (no-records heading)
+records-under file heading = records-from (suc (length file)) file (past 0 (cut_at file 0)) (no-records heading)
 
 -- the records of a file, or its first fault
 abbrev pub file-records : List ℕ → Result Records Fault
-file-records file = and-then (opening file) (records-under file)
+file-records file = and_then (opening file) (records-under file)
 
 -- the records that were read, or none after a fault
 abbrev pub records-or-none : Heading → Result Records Fault → Records
@@ -86,7 +79,7 @@ left-under old file (Ok heading) = records-or-none heading (records-under file h
 left-under old file (Err f) = no-records old
 
 abbrev pub load-leaves : Records → List ℕ → Records
-load-leaves b file = left-under (b .heading) file (opening file)
+load-leaves b file = left-under b.heading file (opening file)
 
 -- the answer to a load, with the records after it
 abbrev pub answered : Result (Unit {0}) Fault → Records → Result Records Fault
@@ -95,7 +88,7 @@ answered (Err f) b = Err f
 
 -- a turn of the load, with the offset and the records after it
 abbrev pub turned : Turn → ℕ → Records → Step
-turned More offset b = goes-on offset b
+turned More offset b = goes_on offset b
 turned (Over result) offset b = is-over (answered result b)
 
 -- a turn that is not the last moves on in the file

@@ -1,11 +1,10 @@
 // A file loaded record by record.
-ghost use mathlib.Core.Path.{_≡_};
-ghost use Prim.Native.Nat.{suc, _+_};
-ghost use lib.ListN.{length};
-ghost use Rattle·cutting.specs.Cuts.{cut-at, past};
-ghost use Rattle·book.specs.Books.{answer, held, opened};
-ghost use Rattle·loading·specs.Laws.{Load-is-open-enter-close, Loaded-is-sound};
-ghost use Rattle·loading·specs.Loading.{after-end, after-record, answered, at-offset, file-records, load-leaves, moves-on, opening, records-from, records-or-none, step, turned};
+ghost use Rattle.std.specs.Prelude.{◌≡◌, suc, ◌+◌, length};
+ghost use Rattle.cutting.specs.Cuts.{cut_at, past};
+ghost use Rattle.book.specs.Books.{answer, held, opened};
+ghost use Rattle.loading.specs.Laws.{Load-is-open-enter-close, Loaded-is-sound};
+ghost use Rattle.loading.specs.Loading.{after-end, after-record, answered, at_offset, file-records, load-leaves, moves-on, opening, records-from, records-or-none, step, turned};
+
 use crate::turn::Turn;
 use book::book::Book;
 use closing::close::close;
@@ -16,7 +15,7 @@ use faults::refusal::Refusal;
 
 // Closes the book with the end record, which stands at the offset. Bytes after it are as wrong as a wrong count.
 fn close_at(book: &Book, part: &[u8], offset: usize, is_last: bool) -> Result<(), Fault>
-    ensures { λ r. ⌜ answered r (held (now (book .entry))) ≡ at-offset offset (after-end «is_last» (held (now (book .entry))) (now (part .entry))) ⌝ }
+    ensures { answered result (held book.now) ≡ at_offset offset (after-end is_last (held book.now) part.now) }
 {
     if !is_last {
         return Err(Fault::plain(Refusal::WrongCount).at_offset(offset));
@@ -29,7 +28,7 @@ fn close_at(book: &Book, part: &[u8], offset: usize, is_last: bool) -> Result<()
 
 // Takes one record, which stands at the offset.
 fn take(book: &mut Book, part: &[u8], offset: usize, is_last: bool) -> Turn
-    ensures { λ r. ⌜ turned r (offset + length (now (part .entry))) (held (now (book .exit))) ≡ after-record «is_last» offset (held (now (book .entry))) (now (part .entry)) ⌝ }
+    ensures { turned result (offset + length part.now) (held book.new) ≡ after-record is_last offset (held book.old) part.now }
 {
     if decode_end(part).is_ok() {
         return Turn::Over(close_at(book, part, offset, is_last));
@@ -42,9 +41,9 @@ fn take(book: &mut Book, part: &[u8], offset: usize, is_last: bool) -> Turn
 
 // Takes the record at the reader's offset.
 fn take_next(book: &mut Book, reader: &mut Reader) -> Turn
-    ensures file { λ _. ⌜ now (now (reader .exit) .file) ≡ now (now (reader .entry) .file) ⌝ }
-    ensures value { λ r. ⌜ turned r (now (reader .exit) .offset) (held (now (book .exit))) ≡ step (now (now (reader .entry) .file)) (now (reader .entry) .offset) (held (now (book .entry))) ⌝ }
-    ensures moves { λ r. ⌜ moves-on r (now (reader .entry) .offset) (now (reader .exit) .offset) ⌝ }
+    ensures file { reader.new.file.now ≡ reader.old.file.now }
+    ensures value { turned result reader.new.offset (held book.new) ≡ step reader.old.file.now reader.old.offset (held book.old) }
+    ensures moves { moves-on result reader.old.offset reader.new.offset }
 {
     let offset = reader.offset();
     match reader.next() {
@@ -55,7 +54,7 @@ fn take_next(book: &mut Book, reader: &mut Reader) -> Turn
 
 // Takes the records from the reader's offset on, up to the end record.
 fn read_records(book: &mut Book, reader: &mut Reader) -> Result<(), Fault>
-    ensures { λ r. ⌜ answered r (held (now (book .exit))) ≡ records-from (suc (length (now (now (reader .entry) .file)))) (now (now (reader .entry) .file)) (now (reader .entry) .offset) (held (now (book .entry))) ⌝ }
+    ensures { answered result (held book.new) ≡ records-from (suc (length reader.old.file.now)) reader.old.file.now reader.old.offset (held book.old) }
 {
     loop {
         match take_next(book, reader) {
@@ -67,8 +66,8 @@ fn read_records(book: &mut Book, reader: &mut Reader) -> Result<(), Fault>
 
 // Reads the records that follow the heading. After a refusal there are none.
 fn read_or_clear(book: &mut Book, reader: &mut Reader) -> Result<(), Fault>
-    ensures value { λ r. ⌜ r ≡ answer (records-from (suc (length (now (now (reader .entry) .file)))) (now (now (reader .entry) .file)) (now (reader .entry) .offset) (held (now (book .entry)))) ⌝ }
-    ensures after { λ _. ⌜ held (now (book .exit)) ≡ records-or-none (now (book .entry) .heading) (records-from (suc (length (now (now (reader .entry) .file)))) (now (now (reader .entry) .file)) (now (reader .entry) .offset) (held (now (book .entry)))) ⌝ }
+    ensures value { result ≡ answer (records-from (suc (length reader.old.file.now)) reader.old.file.now reader.old.offset (held book.old)) }
+    ensures after { held book.new ≡ records-or-none book.old.heading (records-from (suc (length reader.old.file.now)) reader.old.file.now reader.old.offset (held book.old)) }
 {
     let heading = book.heading;
     match read_records(book, reader) {
@@ -82,11 +81,11 @@ fn read_or_clear(book: &mut Book, reader: &mut Reader) -> Result<(), Fault>
 
 // Opens the book with the first record.
 fn open_first(book: &mut Book, reader: &mut Reader) -> Result<(), Fault>
-    requires { ⌜ now reader .offset ≡ 0 ⌝ }
-    ensures file { λ _. ⌜ now (now (reader .exit) .file) ≡ now (now (reader .entry) .file) ⌝ }
-    ensures offset { λ _. ⌜ now (reader .exit) .offset ≡ past 0 (cut-at (now (now (reader .entry) .file)) 0) ⌝ }
-    ensures value { λ r. ⌜ r ≡ answer (opening (now (now (reader .entry) .file))) ⌝ }
-    ensures after { λ _. ⌜ held (now (book .exit)) ≡ opened (held (now (book .entry))) (opening (now (now (reader .entry) .file))) ⌝ }
+    requires { reader.old.offset ≡ 0 }
+    ensures file { reader.new.file.now ≡ reader.old.file.now }
+    ensures offset { reader.new.offset ≡ past 0 (cut_at reader.old.file.now 0) }
+    ensures value { result ≡ answer (opening reader.old.file.now) }
+    ensures after { held book.new ≡ opened (held book.old) (opening reader.old.file.now) }
 {
     match reader.next() {
         Ok(part) => book.open(part),
@@ -97,8 +96,8 @@ fn open_first(book: &mut Book, reader: &mut Reader) -> Result<(), Fault>
 // Loads a file: opens the book with its first record, enters each record after it, and closes the book with the end record.
 // A refused load leaves no record.
 pub fn load(book: &mut Book, file: &[u8]) -> Result<(), Fault>
-    ensures value { λ r. ⌜ r ≡ answer (file-records (now (file .entry))) ⌝ }
-    ensures after { λ _. ⌜ held (now (book .exit)) ≡ load-leaves (held (now (book .entry))) (now (file .entry)) ⌝ }
+    ensures value { result ≡ answer (file-records file.now) }
+    ensures after { held book.new ≡ load-leaves (held book.old) file.now }
 {
     let held_before = book.heading;
     let mut reader = Reader::new(file);
@@ -113,8 +112,8 @@ pub fn load(book: &mut Book, file: &[u8]) -> Result<(), Fault>
 
 // What an accepted load is: the calls that it stands for, one after the other, and a sound book.
 pub fn loading_stands() -> u8
-    ensures calls { λ _. ⌜ Load-is-open-enter-close ⌝ }
-    ensures sound { λ _. ⌜ Loaded-is-sound ⌝ }
+    ensures calls { Load-is-open-enter-close }
+    ensures sound { Loaded-is-sound }
 {
     0
 }

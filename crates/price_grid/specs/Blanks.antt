@@ -1,6 +1,6 @@
 -- What the checker reads past the end of a list of prices.
-use lib.IntN.{pos}
-use Rattle·dayfile.specs.declared.record.Price.{Price}
+use Rattle.std.specs.Prelude.{pos}
+use Rattle.dayfile.specs.declared.record.Price.{Price}
 
 abbrev pub no-price : Price
-no-price = record { node = 0; hour = 0; «day_ahead» = pos 0; «real_time» = pos 0 }
+no-price = record { node = 0; hour = 0; day_ahead = pos 0; real_time = pos 0 }

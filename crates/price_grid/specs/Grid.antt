@@ -1,15 +1,8 @@
 -- Prices by node and hour.
-use mathlib.Core.Bool.{Bool, cond, _&&_}
-use mathlib.Core.List.{List}
-use mathlib.Core.Path.{_≡_}
-use Prim.Native.Nat.{ℕ, _+_, _-_, _*_, _≤_}
-use lib.Dec.{leb}
-use lib.ListN.{getD}
-use Rattle·std.specs.declared.option.Option.{Option}
-use Rattle·std.specs.declared.option.Option.the-variants.{Some, None}
-use Rattle·dayfile.specs.declared.record.Price.{Price}
-use Rattle·closing.specs.Prices.{is-price-of}
-use Rattle·price_grid·specs.Found.{price-at}
+use Rattle.std.specs.Prelude.{◌≡◌, ℕ, ◌+◌, ◌-◌, ◌*◌, ◌≤◌, Bool, cond, ◌&&◌, List, Some, None, Option, nat_le, slice_index_or}
+use Rattle.dayfile.specs.declared.record.Price.{Price}
+use Rattle.closing.specs.Prices.{is-price-of}
+use Rattle.price_grid.specs.Found.{price-at}
 
 -- a node from 1 to 16 in an hour from 1 to 25
 pub record Spot (node hour : ℕ) : Type 0 where
@@ -19,14 +12,14 @@ pub record Spot (node hour : ℕ) : Type 0 where
   pub hour-high : hour ≤ 25
 
 abbrev pub is-spot : ℕ → ℕ → Bool
-is-spot node hour = leb 1 node && (leb node 16 && (leb 1 hour && leb hour 25))
+is-spot node hour = nat_le 1 node && (nat_le node 16 && (nat_le 1 hour && nat_le hour 25))
 
 -- where the spot's price stands, from 0 to 399
 abbrev pub spot-place : ℕ → ℕ → ℕ
 spot-place node hour = node * 25 + hour - 26
 
 abbrev pub spot-price : List (Option Price) → ℕ → ℕ → Option Price
-spot-price spots node hour = getD spots (spot-place node hour) None
+spot-price spots node hour = slice_index_or spots (spot-place node hour) None
 
 -- every spot has the first price of its node and hour
 abbrev pub Indexes : List (Option Price) → List Price → Type 0

@@ -6,14 +6,11 @@ mod replay;
 
 use crate::replay::Replay;
 use script::words::cut_line;
-use std::error::AnyError;
-use std::io::BufWriter;
-use std::io::Read;
-use std::io::Write;
+use std::io::{BufWriter, Read, Write};
 
-fn run_lines(rt: &LibcRuntime, script: &[u8]) -> Result<(), AnyError> {
+fn run_lines(rt: &HostRuntime, script: &[u8]) -> anyhow::Result<()> {
     let mut replay = Replay::new(rt.alloc())?;
-    let mut out = BufWriter::new(rt.stdout());
+    let mut out = BufWriter::new(rt.alloc(), rt.stdout())?;
     let mut rest = script;
     while !rest.is_empty() {
         let (line, after) = cut_line(rest);
@@ -24,12 +21,12 @@ fn run_lines(rt: &LibcRuntime, script: &[u8]) -> Result<(), AnyError> {
     Ok(())
 }
 
-fn run(rt: &LibcRuntime) -> Result<(), AnyError> {
+fn run(rt: &HostRuntime) -> anyhow::Result<()> {
     let mut script = Vec::new(rt.alloc());
     rt.stdin().read_to_end(&mut script)?;
     run_lines(rt, script.as_slice())
 }
 
-fn main(rt: LibcRuntime) -> Result<(), AnyError> {
-    rt.report(run(&rt))
+fn main(rt: HostRuntime) -> anyhow::Result<()> {
+    run(&rt)
 }

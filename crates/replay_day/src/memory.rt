@@ -2,8 +2,7 @@
 use book::book::Book;
 use codes::table::Table;
 use ledger::note::Note;
-use std::alloc::AllocError;
-use std::alloc::Global;
+use std::alloc::{AllocError, Global};
 
 // How many entries the ledger has, and how many bytes the buffer.
 #[derive(Clone, Copy)]

@@ -1,32 +1,17 @@
 // A script as it is run: the day, its memory, and the sizes that the next one gets.
-use crate::answers::print_line;
-use crate::answers::print_refused;
-use crate::answers::print_text;
+use crate::answers::{print_line, print_refused, print_text};
 use crate::held::Held;
-use crate::memory::FIRST_SIZES;
-use crate::memory::Memory;
-use crate::memory::Sizes;
-use history::advance::advance;
-use history::advance::begin;
-use history::steps::Advance;
-use history::steps::Answer;
-use history::steps::Begin;
-use history::steps::Step;
-use script::command::Call;
-use script::command::Command;
-use script::command::command_of;
+use crate::memory::{FIRST_SIZES, Memory, Sizes};
+use history::advance::{advance, begin};
+use history::steps::{Advance, Answer, Begin, Step};
+use script::command::{Call, Command, command_of};
 use script::hex::bytes_of;
-use script::sheet::SHEET_ROOM;
-use script::sheet::put_sheet;
+use script::sheet::{SHEET_ROOM, put_sheet};
 use script::words::words_of;
 use sharing::choice::Rule;
-use sharing::choice::RuleSharing;
-use std::alloc::AllocError;
-use std::alloc::Global;
-use std::error::AnyError;
-use std::fs;
-use std::io;
+use std::alloc::{AllocError, Global};
 use std::io::Write;
+use std::{fs, io};
 
 #[derive(Drop)]
 pub struct Replay {
@@ -36,7 +21,7 @@ pub struct Replay {
 }
 
 // The bytes of a file, if it can be read.
-fn read_file(rt: &LibcRuntime, path: &[u8]) -> Result<Option<Vec<u8>>, AnyError> {
+fn read_file(rt: &HostRuntime, path: &[u8]) -> anyhow::Result<Option<Vec<u8>>> {
     let Ok(path) = std::str::from_utf8(path) else {
         return Ok(None);
     };
@@ -53,7 +38,7 @@ fn read_file(rt: &LibcRuntime, path: &[u8]) -> Result<Option<Vec<u8>>, AnyError>
 }
 
 // The bytes that a line brings: those of a file or of digits, or none; no answer where they cannot be read.
-fn bytes_for(rt: &LibcRuntime, command: &Command<'_>) -> Result<Option<Vec<u8>>, AnyError> {
+fn bytes_for(rt: &HostRuntime, command: &Command<'_>) -> anyhow::Result<Option<Vec<u8>>> {
     match command {
         Command::Load(path) => read_file(rt, path),
         Command::Open(digits)
@@ -88,7 +73,7 @@ impl Replay {
     }
 
     // Begins another day in place of the one before.
-    fn begin<W: Write>(&mut self, start: &Begin<'_>, out: &mut W) -> Result<(), AnyError> {
+    fn begin<W: Write>(&mut self, start: &Begin<'_>, out: &mut W) -> anyhow::Result<()> {
         self.day.clear();
         self.memory.resize(self.sizes)?;
         let memory = &mut self.memory;
@@ -131,20 +116,20 @@ impl Replay {
     }
 
     // The sheet on the page.
-    fn print_sheet<W: Write>(&self, out: &mut W) -> Result<(), AnyError> {
+    fn print_sheet<W: Write>(&self, out: &mut W) -> anyhow::Result<()> {
         let mut text = [0u8; SHEET_ROOM];
         let length = put_sheet(&mut text, &self.memory.page);
         print_text(out, &text[0..length])
     }
 
     // The text of a statement, which stands at the front of the buffer.
-    fn print_statement<W: Write>(&self, length: usize, out: &mut W) -> Result<(), AnyError> {
+    fn print_statement<W: Write>(&self, length: usize, out: &mut W) -> anyhow::Result<()> {
         let buffer = self.memory.buffer.as_slice();
         print_text(out, &buffer[0..length.min(buffer.len())])
     }
 
     // Makes a call on the day and prints what it answered.
-    fn step<W: Write>(&mut self, step: &Step<'_, Rule>, out: &mut W) -> Result<(), AnyError> {
+    fn step<W: Write>(&mut self, step: &Step<'_, Rule>, out: &mut W) -> anyhow::Result<()> {
         match self.call(step) {
             None => print_text(out, b"NOT TAKEN\n"),
             Some(Answer::Done) => match step {
@@ -166,7 +151,7 @@ impl Replay {
         command: &'a Command<'a>,
         bytes: &'a [u8],
         out: &mut W,
-    ) -> Result<(), AnyError> {
+    ) -> anyhow::Result<()> {
         match command {
             Command::Ledger(entries) => {
                 self.sizes.ledger = *entries;
@@ -185,10 +170,10 @@ impl Replay {
     // Runs a line that has words.
     fn run_words<W: Write>(
         &mut self,
-        rt: &LibcRuntime,
+        rt: &HostRuntime,
         words: &[&[u8]],
         out: &mut W,
-    ) -> Result<(), AnyError> {
+    ) -> anyhow::Result<()> {
         let Some(command) = command_of(words) else {
             return print_text(out, b"NOT A CALL\n");
         };
@@ -201,10 +186,10 @@ impl Replay {
     // Runs a line and prints it, with its answer; a line without words is passed over.
     pub fn run_line<W: Write>(
         &mut self,
-        rt: &LibcRuntime,
+        rt: &HostRuntime,
         line: &[u8],
         out: &mut W,
-    ) -> Result<(), AnyError> {
+    ) -> anyhow::Result<()> {
         let words = words_of(rt.alloc(), line)?;
         if words.is_empty() {
             return Ok(());

@@ -1,21 +1,15 @@
 -- Two histories that go through the same calls as far as they can end alike.
-use mathlib.Core.Bool.{true, false}
-use mathlib.Core.List.{List, [], _∷_, _++_}
-use mathlib.Core.Logic.{inl, inr}
-use mathlib.Core.Path.{_≡_, refl, sym, ap, subst, _∙_}
-use Prim.Native.Nat.{ℕ, _+_, _≤_}
-use native.Mathlib.Omega.{arith}
-use lib.ListN.{drop, length, length-append, take}
-use Rattle·std.proofs.shelf.Lists.{append-assoc, drop-at, map-append, take-append-drop, take-at}
-use Rattle·std.proofs.shelf.Tests.{cases-lt}
-use Rattle·day.specs.Calls.{Parts}
-use Rattle·day.specs.Memory.{Memory}
-use Rattle·history.specs.Events.{Call, Event, call-of, calls-of, takes}
-use Rattle·history.specs.Histories.{Does, History, closes, closes-not, corrects, corrects-not, enters, enters-not, issues, issues-not, loads, next, opens, reopens, reopens-not, settles, settles-not, sheets, sheets-not, states, states-not}
-use Rattle·history.specs.Replays.{Stopped, call-in, calls-in}
-use Rattle·history.specs.declared.states.Day.{Day}
-use Rattle·history.specs.declared.steps.Step.{Step}
-use Rattle·history.proofs.Determined.{determined}
+use Rattle.std.proofs.Common.{◌≡◌, ℕ, ◌+◌, ◌≤◌, true, false, List, [], ◌∷◌, ◌++◌, length, take, drop, sym, refl, ap, ◌∙◌, subst, inl, inr, arith, length-append}
+use Rattle.std.proofs.lemmas.List.{append_assoc, drop_at, map-append, take-append-drop, take_at}
+use Rattle.std.proofs.lemmas.Bool.{cases_lt}
+use Rattle.day.specs.Calls.{Parts}
+use Rattle.day.specs.Memory.{Memory}
+use Rattle.history.specs.Events.{Call, Event, call-of, calls-of, takes}
+use Rattle.history.specs.Histories.{Does, History, closes, closes-not, corrects, corrects-not, enters, enters-not, issues, issues-not, loads, next, opens, reopens, reopens-not, settles, settles-not, sheets, sheets-not, states, states-not}
+use Rattle.history.specs.Replays.{Stopped, call-in, calls-in}
+use Rattle.history.specs.declared.states.Day.{Day}
+use Rattle.history.specs.declared.steps.Step.{Step}
+use Rattle.history.proofs.Determined.{determined}
 
 -- a call that was made is one that the state of the day takes
 does-takes : {d e : Day} {m n : Memory} {v : Event} → Does d m v e n → takes d (call-of v) ≡ true
@@ -42,10 +36,10 @@ some-call (loads m n file d r q whole) = omega arith
 some-call (next h s) = simp length-append (omega arith)
 
 -- two ways to part a list at one place
-same-parts : {X : Type 0} (a b c d : List X) → length a ≡ length c → a ++ b ≡ c ++ d → (a ≡ c) × (b ≡ d)
-same-parts a b c d l e = (
-  sym (take-at a b (length a) refl) ∙ ap (take (length a)) e ∙ take-at c d (length a) (sym l),
-  sym (drop-at a b (length a) refl) ∙ ap (drop (length a)) e ∙ drop-at c d (length a) (sym l),
+same_parts : {X : Type 0} (a b c d : List X) → length a ≡ length c → a ++ b ≡ c ++ d → (a ≡ c) × (b ≡ d)
+same_parts a b c d l e = (
+  sym (take_at a b (length a) refl) ∙ ap (take (length a)) e ∙ take_at c d (length a) (sym l),
+  sym (drop_at a b (length a) refl) ∙ ap (drop (length a)) e ∙ drop_at c d (length a) (sym l),
 )
 
 -- a history that stopped was not led on by another through the same calls
@@ -54,26 +48,26 @@ not-longer : {es fs : List Event} {d e : Day} {m n : Memory} (rest more : List C
 not-longer rest more h stopped (opens m n bytes d heading q decoded) same = some-call h
 not-longer rest more h stopped (loads m n file d r q whole) same = some-call h
 not-longer {es} {fs} {d} {e} {m} {n} rest more h stopped (next {events} {d = d₁} {m = m₁} {event = v} g s) same =
-    let parted : calls-of es ++ rest ≡ calls-of events ++ (call-of v ∷ more) = same ∙ append-assoc (calls-of events) (call-of v ∷ []) more in
+    let parted : calls-of es ++ rest ≡ calls-of events ++ (call-of v ∷ more) = same ∙ append_assoc (calls-of events) (call-of v ∷ []) more in
     let shorter = not-longer rest (call-of v ∷ more) h stopped g parted in
     let long = length-append (calls-of events) (call-of v ∷ []) in
-    elim (cases-lt (length (calls-of events)) (length (calls-of es))) [
+    elim (cases_lt (length (calls-of events)) (length (calls-of es))) [
       | inl less ↦ omega arith
       | inr least ↦ (
-          let both = same-parts (calls-of es) rest (calls-of events) (call-of v ∷ more) (omega arith) parted in
-          let out : takes d (call-of v) ≡ false = subst (λ (x : List Call). Stopped x d) (both .1) stopped in
-          let day = determined es events d d₁ m m₁ h g (both .0) .1 in
+          let both = same_parts (calls-of es) rest (calls-of events) (call-of v ∷ more) (omega arith) parted in
+          let out : takes d (call-of v) ≡ false = subst (λ (x : List Call). Stopped x d) both.1 stopped in
+          let day = (determined es events d d₁ m m₁ h g both.0).1 in
           let in-it : takes d (call-of v) ≡ true = ap (λ x. takes x (call-of v)) day ∙ does-takes s in
-          let z : _≡_ {A = ℕ} 0 1 = cc in
+          let z : ◌≡◌ {A = ℕ} 0 1 = cc in
           absurd (omega arith))
     ]
 
-pub same-end : {es fs : List Event} {d e : Day} {m n : Memory} (rest more : List Call) → History es d m → Stopped rest d → History fs e n → Stopped more e → calls-of es ++ rest ≡ calls-of fs ++ more
+pub same_end : {es fs : List Event} {d e : Day} {m n : Memory} (rest more : List Call) → History es d m → Stopped rest d → History fs e n → Stopped more e → calls-of es ++ rest ≡ calls-of fs ++ more
     → (es ≡ fs) × (d ≡ e) × (m ≡ n)
-same-end {es} {fs} {d} {e} {m} {n} rest more h stopped g ended same =
+same_end {es} {fs} {d} {e} {m} {n} rest more h stopped g ended same =
     let there = not-longer rest more h stopped g same in
     let back = not-longer more rest g ended h (sym same) in
-    determined es fs d e m n h g (same-parts (calls-of es) rest (calls-of fs) more (omega arith) same .0)
+    determined es fs d e m n h g (same_parts (calls-of es) rest (calls-of fs) more (omega arith) same).0
 
 -- the steps that were made and those that were not are all the steps
 pub all-calls : {R : Type 0} (parts : R → Parts) (room : ℕ) (steps : List (Step R)) (i : ℕ) → calls-in parts room (take i steps) ++ calls-in parts room (drop i steps) ≡ calls-in parts room steps

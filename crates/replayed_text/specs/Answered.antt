@@ -1,15 +1,13 @@
 -- What is left in the buffer once the calls on a day were made.
-use mathlib.Core.List.{List}
-use Prim.Native.Nat.{ℕ, _-_, _≤_}
-use lib.ListN.{getD, length}
-use Rattle·history.specs.declared.steps.Answer.{Answer}
-use Rattle·history.specs.declared.steps.Answer.the-variants.{Added, Done, Refused, Written}
-use Rattle·text.specs.Lines.{refused-text}
-use Rattle·text.specs.Written.{left-if-fits}
+use Rattle.std.specs.Prelude.{ℕ, ◌-◌, ◌≤◌, List, length, slice_index_or}
+use Rattle.history.specs.declared.steps.Answer.{Answer}
+use Rattle.history.specs.declared.steps.Answer.TheVariants.{Added, Done, Refused, Written}
+use Rattle.text.specs.Lines.{refused-text}
+use Rattle.text.specs.Written.{left-if-fits}
 
 -- the last of the answers; where there is none, nothing was asked
 abbrev pub last-answer : List Answer → Answer
-last-answer answers = getD answers (length answers - 1) Done
+last-answer answers = slice_index_or answers (length answers - 1) Done
 
 -- how long the text of an answer is: a statement has said it, a refusal has its line, no other answer has a text
 abbrev pub answered-length : Answer → ℕ

@@ -1,40 +1,28 @@
 // What is printed of a day file, by one replayed history of calls on the day.
-ghost use mathlib.Core.List.{[], _∷_};
-ghost use mathlib.Core.Path.{_≡_};
-ghost use Prim.Native.Nat.{_≤_};
-ghost use lib.ListN.{length};
-ghost use Rattle·std.specs.Of.Vec.{vec-items};
-ghost use Rattle·std.specs.Results.{Cases};
-ghost use Rattle·codes.specs.Cells.{cell-count};
-ghost use Rattle·history.specs.declared.steps.Step.the-variants.{Issue, Settle, Statement};
-ghost use Rattle·text.specs.Lines.{refused-room};
-ghost use Rattle·text.specs.Written.{left-if-fits};
-ghost use Rattle·replayed_text·specs.Answered.{Line-fits, answered-length, answered-text, last-answer};
-ghost use Rattle·day_text.specs.Texts.{printed-text, text-room};
+ghost use Rattle.std.specs.Prelude.{◌≡◌, ◌≤◌, [], ◌∷◌, length, IfOk, MatchResult};
+ghost use Rattle.codes.specs.Cells.{cell-count};
+ghost use Rattle.history.specs.declared.steps.Step.TheVariants.{Issue, Settle, Statement};
+ghost use Rattle.text.specs.Lines.{refused-room};
+ghost use Rattle.text.specs.Written.{left-if-fits};
+ghost use Rattle.replayed_text.specs.Answered.{Line-fits, answered-length, answered-text, last-answer};
+ghost use Rattle.day_text.specs.Texts.{printed-text, text-room};
+
 use book::book::Book;
 use codes::table::Table;
-use day_text::print::LEDGER_ROOM;
-use day_text::print::TEXT_ROOM;
-use day_text::print::put_fault;
+use day_text::print::{LEDGER_ROOM, TEXT_ROOM, put_fault};
 use faults::fault::Fault;
 use history::replay::replay;
-use history::steps::Answer;
-use history::steps::Begin;
-use history::steps::NotBegun;
-use history::steps::Replay;
-use history::steps::Step;
+use history::steps::{Answer, Begin, NotBegun, Replay, Step};
 use ledger::note::Note;
 use sharing::running::Running;
-use sharing::running::RunningSharing;
-use std::alloc::AllocError;
-use std::alloc::Global;
+use std::alloc::{AllocError, Global};
 
 // Writes the line of a refused call. A statement has written its text itself, and no other answer has a text.
 fn put_answer(buffer: &mut [u8], answer: &Answer) -> usize
-    requires { ⌜ refused-room ≤ length (now buffer) ⌝ }
-    ensures length { λ r. ⌜ r ≡ answered-length (now (answer .entry)) ⌝ }
-    ensures after { λ _. ⌜ now (buffer .exit) ≡ answered-text (now (answer .entry)) (now (buffer .entry)) ⌝ }
-    ensures fits { λ _. ⌜ Line-fits (now (answer .entry)) (now (buffer .entry)) ⌝ }
+    requires { refused-room ≤ length buffer.old }
+    ensures length { result ≡ answered-length answer.now }
+    ensures after { buffer.new ≡ answered-text answer.now buffer.old }
+    ensures fits { Line-fits answer.now buffer.old }
 {
     match answer {
         Answer::Refused(fault) => put_fault(buffer, fault),
@@ -46,10 +34,10 @@ fn put_answer(buffer: &mut [u8], answer: &Answer) -> usize
 
 // The same for the last of the answers.
 fn put_last(buffer: &mut [u8], mut answers: Vec<Answer>) -> usize
-    requires { ⌜ refused-room ≤ length (now buffer) ⌝ }
-    ensures length { λ r. ⌜ r ≡ answered-length (last-answer (vec-items answers)) ⌝ }
-    ensures after { λ _. ⌜ now (buffer .exit) ≡ answered-text (last-answer (vec-items answers)) (now (buffer .entry)) ⌝ }
-    ensures fits { λ _. ⌜ Line-fits (last-answer (vec-items answers)) (now (buffer .entry)) ⌝ }
+    requires { refused-room ≤ length buffer.old }
+    ensures length { result ≡ answered-length (last-answer answers.items) }
+    ensures after { buffer.new ≡ answered-text (last-answer answers.items) buffer.old }
+    ensures fits { Line-fits (last-answer answers.items) buffer.old }
 {
     match answers.pop() {
         Some(answer) => put_answer(buffer, &answer),
@@ -59,17 +47,17 @@ fn put_last(buffer: &mut [u8], mut answers: Vec<Answer>) -> usize
 
 // Settles, issues, and states that issue, which is the first.
 fn first_issue<'a>(rule: &'a Running) -> [Step<'a, Running>; 3]
-    ensures { λ r. ⌜ r ≡ Settle (rule .entry) ∷ Issue ∷ Statement 0 ∷ [] ⌝ }
+    ensures { result ≡ Settle rule.entry ∷ Issue ∷ Statement 0 ∷ [] }
 {
     [Step::Settle(rule), Step::Issue, Step::Statement(0)]
 }
 
 // The same at the end of a replay. A day is never dropped: its numbers are let go.
 fn put_end(buffer: &mut [u8], end: Replay) -> usize
-    requires { ⌜ refused-room ≤ length (now buffer) ⌝ }
-    ensures length { λ r. ⌜ r ≡ answered-length (last-answer (vec-items (end .answers))) ⌝ }
-    ensures after { λ _. ⌜ now (buffer .exit) ≡ answered-text (last-answer (vec-items (end .answers))) (now (buffer .entry)) ⌝ }
-    ensures fits { λ _. ⌜ Line-fits (last-answer (vec-items (end .answers))) (now (buffer .entry)) ⌝ }
+    requires { refused-room ≤ length buffer.old }
+    ensures length { result ≡ answered-length (last-answer end.answers.items) }
+    ensures after { buffer.new ≡ answered-text (last-answer end.answers.items) buffer.old }
+    ensures fits { Line-fits (last-answer end.answers.items) buffer.old }
 {
     let Replay { day, answers } = end;
     let _ = day.into_numbers();
@@ -86,11 +74,11 @@ fn put_replayed(
     buffer: &mut [u8],
     file: &[u8],
 ) -> Result<usize, AllocError>
-    requires ledger { ⌜ cell-count ≤ length (now ledger) ⌝ }
-    requires buffer { ⌜ text-room ≤ length (now buffer) ⌝ }
-    ensures answer { λ r. ⌜ Cases r (λ n. n ≡ length (printed-text (now (file .entry)))) (λ _. Unit {0}) ⌝ }
-    ensures after { λ r. ⌜ Cases r (λ _. now (buffer .exit) ≡ left-if-fits (printed-text (now (file .entry))) (now (buffer .entry))) (λ _. now (buffer .exit) ≡ now (buffer .entry)) ⌝ }
-    ensures within { λ r. ⌜ Cases r (λ n. n ≤ length (now (buffer .entry))) (λ _. Unit {0}) ⌝ }
+    requires ledger { cell-count ≤ length ledger.old }
+    requires buffer { text-room ≤ length buffer.old }
+    ensures answer { IfOk result (λ n. n ≡ length (printed-text file.now)) }
+    ensures after { MatchResult result (λ _. buffer.new ≡ left-if-fits (printed-text file.now) buffer.old) (λ _. buffer.new ≡ buffer.old) }
+    ensures within { IfOk result (λ n. n ≤ length buffer.old) }
 {
     let steps = first_issue(&Running);
     match replay(
@@ -123,9 +111,9 @@ pub fn print_replayed_day(
     buffer: &mut [u8; TEXT_ROOM],
     file: &[u8],
 ) -> Result<usize, AllocError>
-    ensures answer { λ r. ⌜ Cases r (λ n. n ≡ length (printed-text (now (file .entry)))) (λ _. Unit {0}) ⌝ }
-    ensures after { λ r. ⌜ Cases r (λ _. now (buffer .exit) ≡ left-if-fits (printed-text (now (file .entry))) (now (buffer .entry))) (λ _. now (buffer .exit) ≡ now (buffer .entry)) ⌝ }
-    ensures within { λ r. ⌜ Cases r (λ n. n ≤ text-room) (λ _. Unit {0}) ⌝ }
+    ensures answer { IfOk result (λ n. n ≡ length (printed-text file.now)) }
+    ensures after { MatchResult result (λ _. buffer.new ≡ left-if-fits (printed-text file.now) buffer.old) (λ _. buffer.new ≡ buffer.old) }
+    ensures within { IfOk result (λ n. n ≤ text-room) }
 {
     put_replayed(heap, book, table, ledger, page, buffer, file)
 }

@@ -1,15 +1,9 @@
 -- A table of a book: records of one kind, in the order in which they came.
-use Prim.Native.Nat.{ℕ, suc}
-use mathlib.Core.Bool.{Bool, true, cond, not, _&&_}
-use mathlib.Core.List.{List, [], _∷_, _++_}
-use lib.Dec.{leb, ltb}
-use lib.ListN.{length}
-use Rattle·std.specs.Options.{isSome, mapped}
-use Rattle·std.specs.declared.option.Option.{Option}
-use Rattle·std.specs.declared.option.Option.the-variants.{Some, None}
-use Rattle·faults.specs.declared.refusal.Refusal.{Refusal}
-use Rattle·faults.specs.declared.refusal.Refusal.the-variants.{OutOfRange, AboveHeading, KeyTaken, TableFull}
-use Rattle·dayfile.specs.declared.heading.Heading.{Heading}
+use Rattle.std.specs.Prelude.{ℕ, suc, Bool, true, cond, not, ◌&&◌, List, [], ◌∷◌, ◌++◌, length, is_some, Some, None, Option, nat_le, nat_lt}
+use Rattle.std.specs.Option.{option_map}
+use Rattle.faults.specs.declared.refusal.Refusal.{Refusal}
+use Rattle.faults.specs.declared.refusal.Refusal.TheVariants.{OutOfRange, AboveHeading, KeyTaken, TableFull}
+use Rattle.dayfile.specs.declared.heading.Heading.{Heading}
 
 -- The terms on which a table takes a record.
 pub record Terms (X : Type 0) : Type 0 where
@@ -25,25 +19,25 @@ pub record Terms (X : Type 0) : Type 0 where
 -- where the first of these stands that passes the test
 abbrev pub first-place : {X : Type 0} → (X → Bool) → List X → Option ℕ
 first-place test [] = None
-first-place test (x ∷ xs) = cond (test x) (Some 0) (mapped suc (first-place test xs))
+first-place test (x ∷ xs) = cond (test x) (Some 0) (option_map suc (first-place test xs))
 
 -- a place in a list of this length, or none past its end
 abbrev pub place-within : ℕ → ℕ → Option ℕ
-place-within i n = cond (ltb i n) (Some i) None
+place-within i n = cond (nat_lt i n) (Some i) None
 
 -- why a record cannot follow these, if so: the first of the four reasons, in this order
 abbrev pub row-refusal : {X : Type 0} → Terms X → Heading → List X → X → Option Refusal
 row-refusal terms heading xs x =
-    cond (not (terms .in-range x)) (Some OutOfRange)
-    (cond (not (terms .listed heading x)) (Some AboveHeading)
-    (cond (isSome (first-place (terms .alike x) xs)) (Some KeyTaken)
-    (cond (leb (terms .room) (length xs)) (Some TableFull) None)))
+    cond (not (terms.in-range x)) (Some OutOfRange)
+    (cond (not (terms.listed heading x)) (Some AboveHeading)
+    (cond (is_some (first-place (terms.alike x) xs)) (Some KeyTaken)
+    (cond (nat_le terms.room (length xs)) (Some TableFull) None)))
 
 -- each of the second list is taken after the first list and those before it
 abbrev pub taken-after : {X : Type 0} → Terms X → Heading → List X → List X → Bool
 taken-after terms heading before [] = true
 taken-after terms heading before (x ∷ xs) =
-    not (isSome (row-refusal terms heading before x)) && taken-after terms heading (before ++ x ∷ []) xs
+    not (is_some (row-refusal terms heading before x)) && taken-after terms heading (before ++ x ∷ []) xs
 
 -- an empty table would have taken these, in this order
 abbrev pub sound-table : {X : Type 0} → Terms X → Heading → List X → Bool

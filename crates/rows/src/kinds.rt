@@ -1,14 +1,10 @@
 // The six kinds of record as rows of a table.
-ghost use mathlib.Core.Path.{_≡_};
-ghost use Rattle·rows·specs.Kinds.{energy-in-range, failure-terms, fine-in-range, fine-terms, interconnection-terms, kind-in-range, position-terms, price-in-range, price-terms, reserve-price-in-range, reserve-terms, unit-in-range};
+ghost use Rattle.std.specs.Prelude.{◌≡◌};
+ghost use Rattle.rows.specs.Kinds.{energy-in-range, failure-terms, fine-in-range, fine-terms, interconnection-terms, kind-in-range, position-terms, price-in-range, price-terms, reserve-price-in-range, reserve-terms, unit-in-range};
+
 use crate::row::Row;
 use dayfile::heading::Heading;
-use dayfile::record::Failure;
-use dayfile::record::Fine;
-use dayfile::record::Interconnection;
-use dayfile::record::Position;
-use dayfile::record::Price;
-use dayfile::record::Reserve;
+use dayfile::record::{Failure, Fine, Interconnection, Position, Price, Reserve};
 
 // How many records of each kind a book holds at most.
 pub const PRICE_ROOM: usize = 400;
@@ -34,42 +30,42 @@ pub const FINE_LIMIT: u64 = 1_000_000_000_000;
 
 // Is this a quantity of energy, in kWh, that a record may have?
 pub fn is_energy(kwh: u32) -> bool
-    ensures { λ r. ⌜ r ≡ energy-in-range kwh ⌝ }
+    ensures { result ≡ energy-in-range kwh }
 {
     kwh <= ENERGY_LIMIT
 }
 
 fn is_price(price: i32) -> bool
-    ensures { λ r. ⌜ r ≡ price-in-range price ⌝ }
+    ensures { result ≡ price-in-range price }
 {
     price >= -PRICE_LIMIT && price <= PRICE_LIMIT
 }
 
 fn is_reserve_price(price: u32) -> bool
-    ensures { λ r. ⌜ r ≡ reserve-price-in-range price ⌝ }
+    ensures { result ≡ reserve-price-in-range price }
 {
     price <= RESERVE_PRICE_LIMIT
 }
 
 fn is_fine(centavos: u64) -> bool
-    ensures { λ r. ⌜ r ≡ fine-in-range centavos ⌝ }
+    ensures { result ≡ fine-in-range centavos }
 {
     centavos >= 1 && centavos <= FINE_LIMIT
 }
 
 fn is_unit(unit: u8) -> bool
-    ensures { λ r. ⌜ r ≡ unit-in-range unit ⌝ }
+    ensures { result ≡ unit-in-range unit }
 {
     unit >= 1 && unit <= 64
 }
 
 fn is_kind(kind: u8) -> bool
-    ensures { λ r. ⌜ r ≡ kind-in-range kind ⌝ }
+    ensures { result ≡ kind-in-range kind }
 {
     kind >= 1 && kind <= 5
 }
 
-pub impl Row for Price as PriceRow {
+impl Row for Price {
     ghost terms = { price-terms };
 
     fn is_alike(&self, other: &Price) -> bool {
@@ -89,7 +85,7 @@ pub impl Row for Price as PriceRow {
     }
 }
 
-pub impl Row for Position as PositionRow {
+impl Row for Position {
     ghost terms = { position-terms };
 
     fn is_alike(&self, other: &Position) -> bool {
@@ -116,7 +112,7 @@ pub impl Row for Position as PositionRow {
     }
 }
 
-pub impl Row for Interconnection as InterconnectionRow {
+impl Row for Interconnection {
     ghost terms = { interconnection-terms };
 
     fn is_alike(&self, other: &Interconnection) -> bool {
@@ -147,7 +143,7 @@ pub impl Row for Interconnection as InterconnectionRow {
     }
 }
 
-pub impl Row for Reserve as ReserveRow {
+impl Row for Reserve {
     ghost terms = { reserve-terms };
 
     fn is_alike(&self, other: &Reserve) -> bool {
@@ -177,7 +173,7 @@ pub impl Row for Reserve as ReserveRow {
     }
 }
 
-pub impl Row for Failure as FailureRow {
+impl Row for Failure {
     ghost terms = { failure-terms };
 
     fn is_alike(&self, other: &Failure) -> bool {
@@ -198,7 +194,7 @@ pub impl Row for Failure as FailureRow {
     }
 }
 
-pub impl Row for Fine as FineRow {
+impl Row for Fine {
     ghost terms = { fine-terms };
 
     fn is_alike(&self, other: &Fine) -> bool {

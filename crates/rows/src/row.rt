@@ -1,6 +1,7 @@
 // What a table asks of its records.
-ghost use mathlib.Core.Path.{_≡_};
-ghost use Rattle·rows·specs.Tables.{Terms};
+ghost use Rattle.std.specs.Prelude.{◌≡◌};
+ghost use Rattle.rows.specs.Tables.{Terms};
+
 use dayfile::heading::Heading;
 
 // A record of one kind.
@@ -10,17 +11,17 @@ pub trait Row {
 
     // Do the two have one key?
     fn is_alike(&self, other: &Self) -> bool
-        ensures { λ r. ⌜ r ≡ terms .alike (now (self .entry)) (now (other .entry)) ⌝ };
+        ensures { result ≡ terms.alike self.now other.now };
 
     // Does every field lie in its range?
     fn is_in_range(&self) -> bool
-        ensures { λ r. ⌜ r ≡ terms .in-range (now (self .entry)) ⌝ };
+        ensures { result ≡ terms.in-range self.now };
 
     // Does the heading have its account, node, hour and interconnection?
     fn is_listed(&self, heading: &Heading) -> bool
-        ensures { λ r. ⌜ r ≡ terms .listed (now (heading .entry)) (now (self .entry)) ⌝ };
+        ensures { result ≡ terms.listed heading.now self.now };
 
     // How many records of the kind a book holds at most.
     fn room() -> usize
-        ensures { λ r. ⌜ r ≡ terms .room ⌝ };
+        ensures { result ≡ terms.room };
 }

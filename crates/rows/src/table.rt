@@ -1,17 +1,14 @@
 // Tables of records: finding, entering, and whether a table could have been entered as it stands.
-ghost use mathlib.Core.Path.{_≡_};
-ghost use Prim.Native.Nat.{_<_};
-ghost use lib.Dec.{eqb};
-ghost use lib.ListN.{length};
-ghost use Rattle·std.specs.Slices.{found};
-ghost use Rattle·rows·specs.Tables.{first-place, place-within, row-refusal, sound-table};
+ghost use Rattle.std.specs.Prelude.{◌≡◌, ◌<◌, length, IfSome, ◌==◌};
+ghost use Rattle.rows.specs.Tables.{first-place, place-within, row-refusal, sound-table};
+
 use crate::row::Row;
 use dayfile::heading::Heading;
 use faults::refusal::Refusal;
 
 // How many records stand before the first that has the key of `row`: all of them where none has it.
 fn count_unlike<T: Row>(rows: &[T], row: &T) -> usize
-    ensures { λ r. ⌜ first-place (terms .alike (now (row .entry))) (now (rows .entry)) ≡ place-within r (length (now (rows .entry))) ⌝ }
+    ensures { first-place (terms.alike row.now) rows.now ≡ place-within result (length rows.now) }
 {
     for (i, other) in rows.iter().enumerate() {
         if row.is_alike(other) {
@@ -23,8 +20,8 @@ fn count_unlike<T: Row>(rows: &[T], row: &T) -> usize
 
 // Where the first record with the key of `row` stands.
 pub fn find<T: Row>(rows: &[T], row: &T) -> Option<usize>
-    ensures value { λ r. ⌜ r ≡ first-place (terms .alike (now (row .entry))) (now (rows .entry)) ⌝ }
-    ensures within { λ r. ⌜ found r (λ i. i < length (now (rows .entry))) ⌝ }
+    ensures value { result ≡ first-place (terms.alike row.now) rows.now }
+    ensures within { IfSome result (λ i. i < length rows.now) }
 {
     let i = count_unlike(rows, row);
     if i < rows.len() { Some(i) } else { None }
@@ -32,7 +29,7 @@ pub fn find<T: Row>(rows: &[T], row: &T) -> Option<usize>
 
 // Why `row` cannot follow `rows`, if so.
 pub fn refusal_after<T: Row>(heading: &Heading, rows: &[T], row: &T) -> Option<Refusal>
-    ensures { λ r. ⌜ r ≡ row-refusal terms (now (heading .entry)) (now (rows .entry)) (now (row .entry)) ⌝ }
+    ensures { result ≡ row-refusal terms heading.now rows.now row.now }
 {
     if !row.is_in_range() {
         return Some(Refusal::OutOfRange);
@@ -51,7 +48,7 @@ pub fn refusal_after<T: Row>(heading: &Heading, rows: &[T], row: &T) -> Option<R
 
 // How many records from the front an empty table would have taken, before the first that it would have refused.
 fn count_taken<T: Row>(heading: &Heading, rows: &[T]) -> usize
-    ensures { λ r. ⌜ sound-table terms (now (heading .entry)) (now (rows .entry)) ≡ eqb r (length (now (rows .entry))) ⌝ }
+    ensures { sound-table terms heading.now rows.now ≡ (result == length rows.now) }
 {
     for (i, row) in rows.iter().enumerate() {
         if refusal_after(heading, &rows[0..i], row).is_some() {
@@ -63,7 +60,7 @@ fn count_taken<T: Row>(heading: &Heading, rows: &[T]) -> usize
 
 // Would an empty table have taken each of these, in this order?
 pub fn are_sound<T: Row>(heading: &Heading, rows: &[T]) -> bool
-    ensures { λ r. ⌜ r ≡ sound-table terms (now (heading .entry)) (now (rows .entry)) ⌝ }
+    ensures { result ≡ sound-table terms heading.now rows.now }
 {
     count_taken(heading, rows) == rows.len()
 }

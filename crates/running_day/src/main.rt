@@ -1,15 +1,12 @@
 // Reads a day file from standard input, and prints the statement of its first issue under the running rule, or its refusal.
 use book::book::Book;
 use codes::table::Table;
-use day_text::print::LEDGER_ROOM;
-use day_text::print::TEXT_ROOM;
+use day_text::print::{LEDGER_ROOM, TEXT_ROOM};
 use ledger::note::Note;
 use replayed_text::print::print_replayed_day;
-use std::error::AnyError;
-use std::io::Read;
-use std::io::Write;
+use std::io::{Read, Write};
 
-fn print(rt: &LibcRuntime, book: &mut Book, file: &[u8]) -> Result<(), AnyError> {
+fn print(rt: &HostRuntime, book: &mut Book, file: &[u8]) -> anyhow::Result<()> {
     let mut table = Table::new();
     let mut page = Table::new();
     let mut ledger = [Note::none(); LEDGER_ROOM];
@@ -27,13 +24,13 @@ fn print(rt: &LibcRuntime, book: &mut Book, file: &[u8]) -> Result<(), AnyError>
     Ok(())
 }
 
-fn run(rt: &LibcRuntime) -> Result<(), AnyError> {
+fn run(rt: &HostRuntime) -> anyhow::Result<()> {
     let mut file = Vec::new(rt.alloc());
     rt.stdin().read_to_end(&mut file)?;
     let mut book = Book::new(rt.alloc())?;
     print(rt, &mut book, file.as_slice())
 }
 
-fn main(rt: LibcRuntime) -> Result<(), AnyError> {
-    rt.report(run(&rt))
+fn main(rt: HostRuntime) -> anyhow::Result<()> {
+    run(&rt)
 }

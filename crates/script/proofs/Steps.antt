@@ -1,37 +1,30 @@
 -- One byte or one cell more.
-use mathlib.Core.Bool.{Bool, true, false, cond, not, _&&_}
-use mathlib.Core.List.{List, [], _∷_, _++_, map}
-use mathlib.Core.Path.{_≡_, refl, sym, ap, _∙_}
-use Prim.Native.Nat.{ℕ, zero, suc, _+_, _*_, _<_, _≤_}
-use native.Mathlib.Omega.{arith}
-use lib.Dec.{ltb}
-use lib.ListN.{length, getD, drop}
-use Rattle·std.proofs.shelf.Counted.{map-counting-more}
-use Rattle·std.proofs.shelf.Lists.{at-drop-all, at-drop-more, joined-more}
-use Rattle·std.proofs.shelf.Tests.{and-parts, ltb-true}
-use Rattle·std.specs.Iters.{counting}
-use Rattle·std.specs.Joined.{joined}
-use Rattle·std.specs.Text.{digitValue}
-use Rattle·codes.specs.Cells.{cell-at}
-use Rattle·codes.specs.declared.table.Table.{Table}
-use Rattle·script·specs.Digits.{in-digits}
-use Rattle·script·specs.Sheets.{line-of, lines-to}
+use Rattle.std.proofs.Common.{◌≡◌, ℕ, zero, suc, ◌+◌, ◌*◌, ◌<◌, ◌≤◌, Bool, true, false, cond, not, ◌&&◌, ltb, List, [], ◌∷◌, ◌++◌, map, length, get_or, drop, sym, refl, ap, ◌∙◌, arith}
+use Rattle.std.proofs.lemmas.List.FromFn.{map-range_with_len_more}
+use Rattle.std.proofs.lemmas.List.{at_drop_all, at_drop_more, flat_map_more}
+use Rattle.std.proofs.lemmas.Bool.{and_parts, ltb-true}
+use Rattle.std.specs.List.{range_with_len, flat_map}
+use Rattle.std.specs.Char.{digit_value}
+use Rattle.codes.specs.Cells.{cell_at}
+use Rattle.codes.specs.declared.table.Table.{Table}
+use Rattle.script.specs.Digits.{in-digits}
+use Rattle.script.specs.Sheets.{line_of, lines-to}
 
-pub digits-more : (base : ℕ) (word : List ℕ) (i : ℕ) → i < length word
-    → in-digits base (drop i word) ≡ (ltb (digitValue (getD word i 0)) base && in-digits base (drop (i + 1) word))
-digits-more base word i h = at-drop-more (in-digits base) word i 0 h
+pub digits_more : (base : ℕ) (word : List ℕ) (i : ℕ) → i < length word
+    → in-digits base (drop i word) ≡ (ltb (digit_value (get_or word i 0)) base && in-digits base (drop (i + 1) word))
+digits_more base word i h = at_drop_more (in-digits base) word i 0 h
 
 pub digits-all : (base : ℕ) (word : List ℕ) (i : ℕ) → length word ≤ i → in-digits base (drop i word) ≡ true
-digits-all base word i h = at-drop-all (in-digits base) word i h
+digits-all base word i h = at_drop_all (in-digits base) word i h
 
 pub past : (b c : Bool) → b ≡ true → (b && c) ≡ c
 past b c e = rw e refl
 
-pub digit-at : (base : ℕ) (word : List ℕ) (i : ℕ) → in-digits base word ≡ true → i < length word → digitValue (getD word i 0) < base
-digit-at base [] i e h = absurd (omega arith)
-digit-at base (c ∷ cs) zero e h = ltb-true _ _ (and-parts _ _ e .0)
-digit-at base (c ∷ cs) (suc i) e h = digit-at base cs i (and-parts (ltb (digitValue c) base) (in-digits base cs) e .1) (omega arith)
+pub digit_at : (base : ℕ) (word : List ℕ) (i : ℕ) → in-digits base word ≡ true → i < length word → digit_value (get_or word i 0) < base
+digit_at base [] i e h = absurd (omega arith)
+digit_at base (c ∷ cs) zero e h = ltb-true _ _ (and_parts _ _ e).0
+digit_at base (c ∷ cs) (suc i) e h = digit_at base cs i (and_parts (ltb (digit_value c) base) (in-digits base cs) e).1 (omega arith)
 
-pub lines-more : (page : Table) (i : ℕ) → lines-to (i + 1) page ≡ lines-to i page ++ line-of (cell-at page i)
-lines-more page i =
-    ap (joined line-of) (map-counting-more (cell-at page) 0 i i (omega arith)) ∙ sym (joined-more line-of [] (map (cell-at page) (counting 0 i)) (cell-at page i))
+pub lines_more : (page : Table) (i : ℕ) → lines-to (i + 1) page ≡ lines-to i page ++ line_of (cell_at page i)
+lines_more page i =
+    ap (flat_map line_of) (map-range_with_len_more (cell_at page) 0 i i (omega arith)) ∙ sym (flat_map_more line_of [] (map (cell_at page) (range_with_len 0 i)) (cell_at page i))

@@ -1,36 +1,30 @@
 -- Numbers and bytes in digits. digitValue is what a digit or a letter stands for, a letter at least 10, and 36 for any other
 -- byte; value is the number that digits write.
-use mathlib.Core.Bool.{Bool, true, cond, _&&_}
-use mathlib.Core.List.{List, [], _∷_, map}
-use Prim.Native.Nat.{ℕ, _+_, _*_, _/_, _%_}
-use lib.Dec.{eqb, leb, ltb}
-use lib.ListN.{length, getD}
-use Rattle·std.specs.Iters.{counting}
-use Rattle·std.specs.Reads.{value}
-use Rattle·std.specs.Text.{digitValue}
-use Rattle·std.specs.declared.option.Option.{Option}
-use Rattle·std.specs.declared.option.Option.the-variants.{Some, None}
+use Rattle.std.specs.Prelude.{ℕ, ◌+◌, ◌*◌, ◌/◌, ◌%◌, Bool, true, cond, ◌&&◌, List, [], ◌∷◌, map, length, Some, None, Option, ◌==◌, nat_le, nat_lt, slice_index}
+use Rattle.std.specs.List.{range_with_len}
+use Rattle.std.specs.Str.Parse.{digits_value}
+use Rattle.std.specs.Char.{digit_value}
 
 -- every byte is a digit of the base
 abbrev pub in-digits : ℕ → List ℕ → Bool
 in-digits base [] = true
-in-digits base (c ∷ cs) = ltb (digitValue c) base && in-digits base cs
+in-digits base (c ∷ cs) = nat_lt (digit_value c) base && in-digits base cs
 
 -- the number that a word stands for: at least one decimal digit, and no more than the limit
 abbrev pub decimal-number : ℕ → List ℕ → Option ℕ
-decimal-number limit word = cond (ltb 0 (length word) && (in-digits 10 word && leb (value 10 word) limit)) (Some (value 10 word)) None
+decimal-number limit word = cond (nat_lt 0 (length word) && (in-digits 10 word && nat_le (digits_value 10 word) limit)) (Some (digits_value 10 word)) None
 
 -- the byte at an index, two digits for each
 abbrev pub hex-byte : List ℕ → ℕ → ℕ
-hex-byte word index = digitValue (getD word (2 * index) 0) * 16 + digitValue (getD word (2 * index + 1) 0)
+hex-byte word index = digit_value (slice_index word (2 * index)) * 16 + digit_value (slice_index word (2 * index + 1))
 
 abbrev pub hex-bytes : List ℕ → List ℕ
-hex-bytes word = map (hex-byte word) (counting 0 (length word / 2))
+hex-bytes word = map (hex-byte word) (range_with_len 0 (length word / 2))
 
 -- digits for at least one byte
 abbrev pub is-hex : List ℕ → Bool
-is-hex word = ltb 0 (length word) && (eqb (length word % 2) 0 && in-digits 16 word)
+is-hex word = nat_lt 0 (length word) && (length word % 2 == 0 && in-digits 16 word)
 
 -- the bytes that a word stands for: none of them for a hyphen, byte 45
 abbrev pub hex-word : List ℕ → Option (List ℕ)
-hex-word word = cond (eqb (length word) 1 && eqb (getD word 0 0) 45) (Some []) (cond (is-hex word) (Some (hex-bytes word)) None)
+hex-word word = cond (length word == 1 && slice_index word 0 == 45) (Some []) (cond (is-hex word) (Some (hex-bytes word)) None)

@@ -1,40 +1,32 @@
 -- The text of a sheet.
-use mathlib.Core.Bool.{cond}
-use mathlib.Core.List.{List, [], _++_, map}
-use Prim.Native.Nat.{ℕ}
-use lib.Dec.{eqb}
-use lib.IntN.{natAbs}
-use Rattle·std.specs.Iters.{counting}
-use Rattle·std.specs.Joined.{joined}
-use Rattle·std.specs.declared.option.Option.{Option}
-use Rattle·std.specs.declared.option.Option.the-variants.{Some, None}
-use Rattle·std.specs.shelf.Lists.{sumBy}
-use Rattle·codes.specs.Cells.{cell-at, cell-count}
-use Rattle·codes.specs.declared.table.Table.{Table}
-use Rattle·codes.specs.declared.table.TableCell.{TableCell}
-use Rattle·statement.specs.Lines.{amount-line}
-use Rattle·statement.specs.Statements.{last-line}
+use Rattle.std.specs.Prelude.{ℕ, cond, List, [], ◌++◌, map, Some, None, sum_by, Option, ◌==◌, unsigned_abs}
+use Rattle.std.specs.List.{range_with_len, flat_map}
+use Rattle.codes.specs.Cells.{cell_at, cell-count}
+use Rattle.codes.specs.declared.table.Table.{Table}
+use Rattle.codes.specs.declared.table.TableCell.{TableCell}
+use Rattle.statement.specs.Lines.{amount-line}
+use Rattle.statement.specs.Statements.{last_line}
 
 -- the line of a cell, and none for an amount of 0
-abbrev pub line-of : Option TableCell → List ℕ
-line-of None = []
-line-of (Some c) = cond (eqb (natAbs (c .amount)) 0) [] (amount-line (c .code) (c .party) (c .amount))
+abbrev pub line_of : Option TableCell → List ℕ
+line_of None = []
+line_of (Some c) = cond (unsigned_abs c.amount == 0) [] (amount-line c.code c.party c.amount)
 
 -- 1 for a cell that has a line
-abbrev pub one-of : Option TableCell → ℕ
-one-of None = 0
-one-of (Some c) = cond (eqb (natAbs (c .amount)) 0) 0 1
+abbrev pub one_of : Option TableCell → ℕ
+one_of None = 0
+one_of (Some c) = cond (unsigned_abs c.amount == 0) 0 1
 
 -- the first cells
 abbrev pub first-cells : ℕ → Table → List (Option TableCell)
-first-cells count page = map (cell-at page) (counting 0 count)
+first-cells count page = map (cell_at page) (range_with_len 0 count)
 
 abbrev pub lines-to : ℕ → Table → List ℕ
-lines-to count page = joined line-of (first-cells count page)
+lines-to count page = flat_map line_of (first-cells count page)
 
 abbrev pub lines-in : ℕ → Table → ℕ
-lines-in count page = sumBy one-of (first-cells count page)
+lines-in count page = sum_by one_of (first-cells count page)
 
 -- a line for each cell that is not 0, by code and then party, and END with how many these are
 unfoldable pub sheet-text : Table → List ℕ
-sheet-text page = lines-to cell-count page ++ last-line (lines-in cell-count page)
+sheet-text page = lines-to cell-count page ++ last_line (lines-in cell-count page)

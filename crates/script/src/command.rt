@@ -1,10 +1,9 @@
 // What a line of a script asks for.
-ghost use mathlib.Core.Path.{_≡_};
-ghost use Rattle·script·specs.Digits.{decimal-number};
-use crate::decimal::byte;
-use crate::decimal::number;
-use crate::name::Name;
-use crate::name::name_of;
+ghost use Rattle.std.specs.Prelude.{◌≡◌};
+ghost use Rattle.script.specs.Digits.{decimal-number};
+
+use crate::decimal::{byte, number};
+use crate::name::{Name, name_of};
 use correcting::reading::Reading;
 use sharing::choice::Rule;
 
@@ -37,7 +36,7 @@ pub enum Call<'a> {
 }
 
 fn room(word: &[u8]) -> Option<usize>
-    ensures { λ r. ⌜ r ≡ decimal-number 1000000 (now (word .entry)) ⌝ }
+    ensures { result ≡ decimal-number 1000000 word.now }
 {
     match number(word, MOST_ROOM) {
         Some(room) => Some(room as usize),

@@ -1,25 +1,24 @@
 // Numbers in decimal digits.
-ghost use mathlib.Core.Path.{_≡_};
-ghost use Prim.Native.Nat.{_+_, _*_, _<_, _≤_, min};
-ghost use Rattle·std.specs.Reads.{value};
-ghost use Rattle·std.specs.Text.{digitValue};
-ghost use Rattle·script·specs.Digits.{decimal-number};
-use crate::digits::are_digits;
-use crate::digits::digit_value;
+ghost use Rattle.std.specs.Prelude.{◌≡◌, ◌+◌, ◌*◌, ◌<◌, ◌≤◌, min};
+ghost use Rattle.std.specs.Str.Parse.{digits_value};
+ghost use Rattle.std.specs.Char.{digit_value};
+ghost use Rattle.script.specs.Digits.{decimal-number};
+
+use crate::digits::{are_digits, digit_value};
 
 // The number with one digit more, or the most that is asked for.
 fn grown(number: u64, byte: u8, most: u64) -> u64
-    requires within { ⌜ number ≤ most ⌝ }
-    requires small { ⌜ most ≤ 1000000000000 ⌝ }
-    ensures { λ r. ⌜ r ≡ min (number * 10 + digitValue byte) most ⌝ }
+    requires within { number ≤ most }
+    requires small { most ≤ 1000000000000 }
+    ensures { result ≡ min (number * 10 + digit_value byte) most }
 {
     (number * 10 + u64::from(digit_value(byte))).min(most)
 }
 
 // The number that the digits stand for, or the most that is asked for.
 fn value_up_to(word: &[u8], most: u64) -> u64
-    requires { ⌜ most ≤ 1000000000000 ⌝ }
-    ensures { λ r. ⌜ r ≡ min (value 10 (now (word .entry))) most ⌝ }
+    requires { most ≤ 1000000000000 }
+    ensures { result ≡ min (digits_value 10 word.now) most }
 {
     let mut number = 0;
     for byte in word {
@@ -30,8 +29,8 @@ fn value_up_to(word: &[u8], most: u64) -> u64
 
 // The number that a word of digits stands for, if it is no larger than the limit. Zeros may stand before it.
 pub fn number(word: &[u8], limit: u64) -> Option<u64>
-    requires { ⌜ limit < 1000000000000 ⌝ }
-    ensures { λ r. ⌜ r ≡ decimal-number limit (now (word .entry)) ⌝ }
+    requires { limit < 1000000000000 }
+    ensures { result ≡ decimal-number limit word.now }
 {
     if word.is_empty() || !are_digits(word, 10) {
         return None;
@@ -42,7 +41,7 @@ pub fn number(word: &[u8], limit: u64) -> Option<u64>
 
 // A number of one byte.
 pub fn byte(word: &[u8]) -> Option<u8>
-    ensures { λ r. ⌜ r ≡ decimal-number 255 (now (word .entry)) ⌝ }
+    ensures { result ≡ decimal-number 255 word.now }
 {
     match number(word, 255) {
         Some(value) => Some(value as u8),

@@ -1,13 +1,12 @@
 // Digits in any base up to 36.
-ghost use mathlib.Core.Path.{_≡_};
-ghost use Prim.Native.Nat.{_≤_};
-ghost use Rattle·std.specs.Text.{digitValue};
-ghost use Rattle·script·specs.Digits.{in-digits};
+ghost use Rattle.std.specs.Prelude.{◌≡◌, ◌≤◌};
+ghost use Rattle.std.specs.Char.{digit_value};
+ghost use Rattle.script.specs.Digits.{in-digits};
 
 // What a digit stands for; 36 where it is none.
 pub fn digit_value(byte: u8) -> u8
-    ensures value { λ r. ⌜ r ≡ digitValue byte ⌝ }
-    ensures bound { λ r. ⌜ r ≤ 36 ⌝ }
+    ensures value { result ≡ digit_value byte }
+    ensures bound { result ≤ 36 }
 {
     match byte {
         b'0'..=b'9' => byte - b'0',
@@ -19,7 +18,7 @@ pub fn digit_value(byte: u8) -> u8
 
 // Is every byte of the word a digit of the base?
 pub fn are_digits(word: &[u8], base: u8) -> bool
-    ensures { λ r. ⌜ r ≡ in-digits base (now (word .entry)) ⌝ }
+    ensures { result ≡ in-digits base word.now }
 {
     for byte in word {
         if digit_value(*byte) >= base {

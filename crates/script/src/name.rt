@@ -1,7 +1,7 @@
 // The names that the lines of a script begin with.
-ghost use mathlib.Core.Path.{_≡_};
-ghost use Rattle·std.specs.shelf.Text.{sameBytes};
-ghost use Rattle·script·specs.Names.{call-name, name-of};
+ghost use Rattle.std.specs.Prelude.{◌≡◌};
+ghost use Rattle.std.specs.Str.{bytes_eq};
+ghost use Rattle.script.specs.Names.{call-name, name_of};
 
 #[derive(Clone, Copy)]
 pub enum Name {
@@ -21,14 +21,14 @@ pub enum Name {
 }
 
 fn is_word(word: &[u8], name: &[u8]) -> bool
-    ensures { λ r. ⌜ r ≡ sameBytes (now (word .entry)) (now (name .entry)) ⌝ }
+    ensures { result ≡ bytes_eq word.now name.now }
 {
     word == name
 }
 
 // A call on a day.
 fn call_name(word: &[u8]) -> Option<Name>
-    ensures { λ r. ⌜ r ≡ call-name (now (word .entry)) ⌝ }
+    ensures { result ≡ call-name word.now }
 {
     if is_word(word, b"enter") {
         return Some(Name::Enter);
@@ -59,7 +59,7 @@ fn call_name(word: &[u8]) -> Option<Name>
 
 // The name that a word is, if it is one.
 pub fn name_of(word: &[u8]) -> Option<Name>
-    ensures { λ r. ⌜ r ≡ name-of (now (word .entry)) ⌝ }
+    ensures { result ≡ name_of word.now }
 {
     if is_word(word, b"ledger") {
         return Some(Name::Ledger);

@@ -1,14 +1,8 @@
 // The lines of a script, and the words of a line.
-ghost use mathlib.Core.List.{map};
-ghost use mathlib.Core.Path.{_≡_};
-ghost use Prim.Native.Nat.{_<_, _≤_};
-ghost use lib.ListN.{length};
-ghost use Rattle·std.specs.Of.Vec.{vec-items};
-ghost use Rattle·std.specs.Options.{Cases};
-ghost use Rattle·std.specs.Vec.{made};
-ghost use Rattle·script·specs.Words.{after-line, after-word, before, blank, first-line, first-word, line-words, stops, unblanked, uncommented};
-use std::alloc::AllocError;
-use std::alloc::Global;
+ghost use Rattle.std.specs.Prelude.{◌≡◌, ◌<◌, ◌≤◌, map, length, IfOk, MatchOption};
+ghost use Rattle.script.specs.Words.{after_line, after-word, before, blank, first-line, first_word, line-words, stops, unblanked, uncommented};
+
+use std::alloc::{AllocError, Global};
 
 // Where a run of bytes ends.
 #[derive(Clone, Copy)]
@@ -20,14 +14,14 @@ enum Stop {
 }
 
 fn is_blank(byte: u8) -> bool
-    ensures { λ r. ⌜ r ≡ blank byte ⌝ }
+    ensures { result ≡ blank byte }
 {
     byte == b' ' || byte == b'\t' || byte == b'\r'
 }
 
 impl Stop {
     fn is_at(self, byte: u8) -> bool
-        ensures { λ r. ⌜ r ≡ stops self byte ⌝ }
+        ensures { result ≡ stops self byte }
     {
         match self {
             Stop::LineEnd => byte == b'\n',
@@ -40,8 +34,8 @@ impl Stop {
 
 // How many bytes stand before the stop; all, where there is none.
 fn length_before(text: &[u8], stop: Stop) -> usize
-    ensures value { λ r. ⌜ r ≡ before stop (now (text .entry)) ⌝ }
-    ensures bound { λ r. ⌜ r ≤ length (now (text .entry)) ⌝ }
+    ensures value { result ≡ before stop text.now }
+    ensures bound { result ≤ length text.now }
 {
     let mut length = 0;
     while length < text.len() && !stop.is_at(text[length]) {
@@ -52,9 +46,9 @@ fn length_before(text: &[u8], stop: Stop) -> usize
 
 // The first line, without its end, and what follows it.
 pub fn cut_line(text: &[u8]) -> (&[u8], &[u8])
-    ensures line { λ r. ⌜ now (r .0) ≡ first-line (now (text .entry)) ⌝ }
-    ensures rest { λ r. ⌜ now (r .1) ≡ after-line (now (text .entry)) ⌝ }
-    ensures less { λ r. ⌜ (0 < length (now (text .entry)) → length (now (r .1)) < length (now (text .entry))) ⌝ }
+    ensures line { result.0.now ≡ first-line text.now }
+    ensures rest { result.1.now ≡ after_line text.now }
+    ensures less { 0 < length text.now → length result.1.now < length text.now }
 {
     let end = length_before(text, Stop::LineEnd);
     if end < text.len() {
@@ -66,22 +60,22 @@ pub fn cut_line(text: &[u8]) -> (&[u8], &[u8])
 
 // The line up to its comment.
 pub fn before_comment(line: &[u8]) -> &[u8]
-    ensures { λ r. ⌜ now r ≡ uncommented (now (line .entry)) ⌝ }
+    ensures { result.now ≡ uncommented line.now }
 {
     &line[0..length_before(line, Stop::Comment)]
 }
 
 // The text from its first word on.
 fn without_blanks(text: &[u8]) -> &[u8]
-    ensures value { λ r. ⌜ now r ≡ unblanked (now (text .entry)) ⌝ }
-    ensures bound { λ r. ⌜ length (now r) ≤ length (now (text .entry)) ⌝ }
+    ensures value { result.now ≡ unblanked text.now }
+    ensures bound { length result.now ≤ length text.now }
 {
     &text[length_before(text, Stop::Letter)..]
 }
 
 // The first word, and what follows it; none where there are only blanks.
 pub fn cut_word(text: &[u8]) -> Option<(&[u8], &[u8])>
-    ensures { λ r. ⌜ Cases r (length (first-word (now (text .entry))) ≡ 0) (λ cut. (0 < length (first-word (now (text .entry)))) × (now (cut .0) ≡ first-word (now (text .entry))) × (now (cut .1) ≡ after-word (now (text .entry))) × (length (now (cut .1)) < length (now (text .entry)))) ⌝ }
+    ensures { MatchOption result (length (first_word text.now) ≡ 0) (λ cut. (0 < length (first_word text.now)) × (cut.0.now ≡ first_word text.now) × (cut.1.now ≡ after-word text.now) × (length cut.1.now < length text.now)) }
 {
     let rest = without_blanks(text);
     let length = length_before(rest, Stop::Blank);
@@ -94,7 +88,7 @@ pub fn cut_word(text: &[u8]) -> Option<(&[u8], &[u8])>
 
 // The words of a line, in order.
 pub fn words_of<'a>(heap: Global, line: &'a [u8]) -> Result<Vec<&'a [u8]>, AllocError>
-    ensures { λ r. ⌜ made r (λ v. map (λ word. word .now) (vec-items v) ≡ line-words (now (line .entry))) ⌝ }
+    ensures { IfOk result (λ v. map (λ word. word.now) v.items ≡ line-words line.now) }
 {
     let mut words = Vec::new(heap);
     let mut rest = before_comment(line);

@@ -1,20 +1,13 @@
 -- The amounts of a row by kinds of party.
-use mathlib.Core.Bool.{Bool, true, false, cond, _&&_}
-use mathlib.Core.List.{List, [], _∷_}
-use mathlib.Core.Logic.{⊎-elim}
-use mathlib.Core.Path.{_≡_, refl, sym, ap, _∙_}
-use Prim.Native.Nat.{ℕ, _+_, _-_, _<_, _≤_}
-use native.Mathlib.Omega.{arith}
-use lib.Dec.{eqb, leb}
-use lib.IntN.{ℤ, pos, negℤ}
-use Rattle·std.specs.shelf.Lists.{All}
-use Rattle·std.proofs.shelf.Tests.{and-from, and-left, and-parts, and-right, cases-bool, cases-eq, cond-false, cond-true, eq-eqb, eqb-true, le-leb, leb-true, lt-leb, ne-eqb}
-use Rattle·codes.specs.Parties.{system-party}
-use Rattle·codes.specs.Sums.{sum-over}
-use Rattle·amounts.specs.Amounts.{owned-by}
-use Rattle·amounts.proofs.Adding.{owns-nothing, sum-neg, sum-same, sum-same-all}
-use Rattle·bounds.proofs.Facts.{all-map}
-use Rattle·settlement·specs.Sheets.{ByKind, amount-of, to-accounts, to-nobody, to-systems, to-universal-service, to-working-capital}
+use Rattle.std.proofs.Common.{◌≡◌, ℕ, ◌+◌, ◌-◌, ◌<◌, ◌≤◌, Bool, true, false, cond, ◌&&◌, eqb, leb, List, [], ◌∷◌, ℤ, pos, neg_ℤ, sym, refl, ap, ◌∙◌, ⊎_elim, arith}
+use Rattle.std.specs.List.{AllByRecursion as All}
+use Rattle.std.proofs.lemmas.Bool.{and_from, and_left, and_parts, and_right, cases_Bool, cases_eq, cond-false, cond-true, eq-eqb, eqb-true, le-leb, leb-true, lt-leb, ne_eqb}
+use Rattle.codes.specs.Parties.{system-party}
+use Rattle.codes.specs.Sums.{sum_over}
+use Rattle.amounts.specs.Amounts.{owned_by}
+use Rattle.amounts.proofs.Adding.{owns_nothing, sum-neg, sum_same, sum-same-all}
+use Rattle.bounds.proofs.Facts.{all_map}
+use Rattle.settlement.specs.Sheets.{ByKind, amount-of, to-accounts, to-nobody, to-systems, to-universal-service, to-working-capital}
 
 abbrev is-account : ℕ → ℕ → Bool
 is-account n q = leb 1 q && leb q n
@@ -41,82 +34,82 @@ accounts-have n f q = ap (cond (is-account n q) (f q)) (zeros (is-system q) (eqb
 
 -- what records add up to for the account asked for, where every record has one of n accounts
 pub account-row : {X : Type 0} (owner : X → ℕ) (f : X → ℤ) (n : ℕ) (xs : List X) → All (λ x. (1 ≤ owner x) × (owner x ≤ n)) xs → (q : ℕ)
-    → sum-over (λ x. owned-by (owner x) q (f x)) xs ≡ amount-of n (to-accounts (λ a. sum-over (λ x. owned-by (owner x) a (f x)) xs)) q
+    → sum_over (λ x. owned_by (owner x) q (f x)) xs ≡ amount-of n (to-accounts (λ a. sum_over (λ x. owned_by (owner x) a (f x)) xs)) q
 account-row {X = X} owner f n xs h q =
-    ⊎-elim
+    ⊎_elim
     (λ (s : is-account n q ≡ true). sym (cond-true (is-account n q) _ _ s))
     (λ (s : is-account n q ≡ false).
-    owns-nothing owner f q xs (all-map (λ x. (1 ≤ owner x) × (owner x ≤ n)) _ (λ x p e. outside s x p e) xs h)
+    owns_nothing owner f q xs (all_map (λ x. (1 ≤ owner x) × (owner x ≤ n)) _ (λ x p e. outside s x p e) xs h)
     ∙ sym (cond-false (is-account n q) _ _ s))
-    (cases-bool (is-account n q))
-    ∙ sym (accounts-have n (λ a. sum-over (λ x. owned-by (owner x) a (f x)) xs) q)
+    (cases_Bool (is-account n q))
+    ∙ sym (accounts-have n (λ a. sum_over (λ x. owned_by (owner x) a (f x)) xs) q)
   where
     outside : is-account n q ≡ false → (x : X) → (1 ≤ owner x) × (owner x ≤ n) → owner x ≡ q → ⊥
     outside s x p e =
-        let yes : is-account n q ≡ true = and-from (leb 1 q) (leb q n) (le-leb 1 q (omega (arith, p .0, e))) (le-leb q n (omega (arith, p .1, e))) in
-        let z : _≡_ {A = Bool} true false = sym yes ∙ s in
-        let one : _≡_ {A = ℕ} 0 1 = cc in
+        let yes : is-account n q ≡ true = and_from (leb 1 q) (leb q n) (le-leb 1 q (omega (arith, p.0, e))) (le-leb q n (omega (arith, p.1, e))) in
+        let z : ◌≡◌ {A = Bool} true false = sym yes ∙ s in
+        let one : ◌≡◌ {A = ℕ} 0 1 = cc in
         omega arith
 
 -- what records add up to for the external system asked for
 pub system-row : {X : Type 0} (owner : X → ℕ) (f : X → ℤ) (n : ℕ) (xs : List X) → n ≤ 32 → All (λ x. (1 ≤ owner x) × (owner x ≤ 4)) xs → (q : ℕ)
-    → sum-over (λ x. owned-by (system-party (owner x)) q (f x)) xs ≡ amount-of n (to-systems (λ s. sum-over (λ x. owned-by (owner x) s (f x)) xs)) q
+    → sum_over (λ x. owned_by (system-party (owner x)) q (f x)) xs ≡ amount-of n (to-systems (λ s. sum_over (λ x. owned_by (owner x) s (f x)) xs)) q
 system-row {X = X} owner f n xs few h q =
-    ⊎-elim
+    ⊎_elim
     (λ (s : is-system q ≡ true).
-    let p = and-parts (leb 41 q) (leb q 44) s in
-    let low = leb-true 41 q (p .0) in
-    sum-same _ _ (λ x. ap (λ b. cond b (f x) (pos 0)) (same-test x low)) xs
-    ∙ sym (cond-false (is-account n q) _ _ (and-right (leb 1 q) (leb q n) (lt-leb q n (omega (arith, few, low)))) ∙ cond-true (is-system q) _ _ s))
+    let p = and_parts (leb 41 q) (leb q 44) s in
+    let low = leb-true 41 q p.0 in
+    sum_same _ _ (λ x. ap (λ b. cond b (f x) (pos 0)) (same_test x low)) xs
+    ∙ sym (cond-false (is-account n q) _ _ (and_right (leb 1 q) (leb q n) (lt-leb q n (omega (arith, few, low)))) ∙ cond-true (is-system q) _ _ s))
     (λ (s : is-system q ≡ false).
-    owns-nothing (λ x. system-party (owner x)) f q xs (all-map (λ x. (1 ≤ owner x) × (owner x ≤ 4)) _ (λ x p e. outside s x p e) xs h)
+    owns_nothing (λ x. system-party (owner x)) f q xs (all_map (λ x. (1 ≤ owner x) × (owner x ≤ 4)) _ (λ x p e. outside s x p e) xs h)
     ∙ sym (three s (is-account n q)))
-    (cases-bool (is-system q))
+    (cases_Bool (is-system q))
   where
-    same-test : (x : X) → 41 ≤ q → eqb (system-party (owner x)) q ≡ eqb (owner x) (q - 40)
-    same-test x low =
-        ⊎-elim
+    same_test : (x : X) → 41 ≤ q → eqb (system-party (owner x)) q ≡ eqb (owner x) (q - 40)
+    same_test x low =
+        ⊎_elim
         (λ (e : owner x ≡ q - 40). eq-eqb (system-party (owner x)) q (omega arith) ∙ sym (eq-eqb (owner x) (q - 40) e))
-        (λ (ne : owner x ≡ q - 40 → ⊥). ne-eqb (system-party (owner x)) q (λ e. ne (omega arith)) ∙ sym (ne-eqb (owner x) (q - 40) ne))
-        (cases-eq (owner x) (q - 40))
+        (λ (ne : owner x ≡ q - 40 → ⊥). ne_eqb (system-party (owner x)) q (λ e. ne (omega arith)) ∙ sym (ne_eqb (owner x) (q - 40) ne))
+        (cases_eq (owner x) (q - 40))
 
     outside : is-system q ≡ false → (x : X) → (1 ≤ owner x) × (owner x ≤ 4) → system-party (owner x) ≡ q → ⊥
     outside s x p e =
-        let yes : is-system q ≡ true = and-from (leb 41 q) (leb q 44) (le-leb 41 q (omega (arith, p .0, e))) (le-leb q 44 (omega (arith, p .1, e))) in
-        let z : _≡_ {A = Bool} true false = sym yes ∙ s in
-        let one : _≡_ {A = ℕ} 0 1 = cc in
+        let yes : is-system q ≡ true = and_from (leb 41 q) (leb q 44) (le-leb 41 q (omega (arith, p.0, e))) (le-leb q 44 (omega (arith, p.1, e))) in
+        let z : ◌≡◌ {A = Bool} true false = sym yes ∙ s in
+        let one : ◌≡◌ {A = ℕ} 0 1 = cc in
         omega arith
 
-    three : is-system q ≡ false → (a : Bool) → cond a (pos 0) (cond (is-system q) (sum-over (λ x. owned-by (owner x) (q - 40) (f x)) xs) (cond (eqb q 51) (pos 0) (cond (eqb q 52) (pos 0) (pos 0)))) ≡ pos 0
+    three : is-system q ≡ false → (a : Bool) → cond a (pos 0) (cond (is-system q) (sum_over (λ x. owned_by (owner x) (q - 40) (f x)) xs) (cond (eqb q 51) (pos 0) (cond (eqb q 52) (pos 0) (pos 0)))) ≡ pos 0
     three s true = refl
     three s false = cond-false (is-system q) _ _ s ∙ zeros false (eqb q 51) (eqb q 52)
 
 -- an amount to a fund alone
-pub capital-row : (n : ℕ) (v : ℤ) → n ≤ 32 → (q : ℕ) → owned-by 51 q v ≡ amount-of n (to-working-capital v) q
+pub capital-row : (n : ℕ) (v : ℤ) → n ≤ 32 → (q : ℕ) → owned_by 51 q v ≡ amount-of n (to-working-capital v) q
 capital-row n v few q =
-    ⊎-elim
+    ⊎_elim
     (λ (e : 51 ≡ q). cond-true (eqb 51 q) v (pos 0) (eq-eqb 51 q e)
-    ∙ sym (cond-false (is-account n q) _ _ (and-right (leb 1 q) (leb q n) (lt-leb q n (omega (arith, few, e))))
-    ∙ cond-false (is-system q) _ _ (and-right (leb 41 q) (leb q 44) (lt-leb q 44 (omega (arith, e))))
+    ∙ sym (cond-false (is-account n q) _ _ (and_right (leb 1 q) (leb q n) (lt-leb q n (omega (arith, few, e))))
+    ∙ cond-false (is-system q) _ _ (and_right (leb 41 q) (leb q 44) (lt-leb q 44 (omega (arith, e))))
     ∙ cond-true (eqb q 51) _ _ (eq-eqb q 51 (sym e))))
-    (λ (ne : 51 ≡ q → ⊥). cond-false (eqb 51 q) v (pos 0) (ne-eqb 51 q ne) ∙ sym (rest (is-account n q) (is-system q) (ne-eqb q 51 (λ e. ne (sym e)))))
-    (cases-eq 51 q)
+    (λ (ne : 51 ≡ q → ⊥). cond-false (eqb 51 q) v (pos 0) (ne_eqb 51 q ne) ∙ sym (rest (is-account n q) (is-system q) (ne_eqb q 51 (λ e. ne (sym e)))))
+    (cases_eq 51 q)
   where
     rest : (a b : Bool) → eqb q 51 ≡ false → cond a (pos 0) (cond b (pos 0) (cond (eqb q 51) v (cond (eqb q 52) (pos 0) (pos 0)))) ≡ pos 0
     rest true b e = refl
     rest false true e = refl
     rest false false e = cond-false (eqb q 51) _ _ e ∙ zeros false false (eqb q 52)
 
-pub service-row : (n : ℕ) (v : ℤ) → n ≤ 32 → (q : ℕ) → owned-by 52 q v ≡ amount-of n (to-universal-service v) q
+pub service-row : (n : ℕ) (v : ℤ) → n ≤ 32 → (q : ℕ) → owned_by 52 q v ≡ amount-of n (to-universal-service v) q
 service-row n v few q =
-    ⊎-elim
+    ⊎_elim
     (λ (e : 52 ≡ q). cond-true (eqb 52 q) v (pos 0) (eq-eqb 52 q e)
-    ∙ sym (cond-false (is-account n q) _ _ (and-right (leb 1 q) (leb q n) (lt-leb q n (omega (arith, few, e))))
-    ∙ cond-false (is-system q) _ _ (and-right (leb 41 q) (leb q 44) (lt-leb q 44 (omega (arith, e))))
-    ∙ cond-false (eqb q 51) _ _ (ne-eqb q 51 (λ w. omega (arith, e, w)))
+    ∙ sym (cond-false (is-account n q) _ _ (and_right (leb 1 q) (leb q n) (lt-leb q n (omega (arith, few, e))))
+    ∙ cond-false (is-system q) _ _ (and_right (leb 41 q) (leb q 44) (lt-leb q 44 (omega (arith, e))))
+    ∙ cond-false (eqb q 51) _ _ (ne_eqb q 51 (λ w. omega (arith, e, w)))
     ∙ cond-true (eqb q 52) _ _ (eq-eqb q 52 (sym e))))
-    (λ (ne : 52 ≡ q → ⊥). cond-false (eqb 52 q) v (pos 0) (ne-eqb 52 q ne) ∙ sym (rest (is-account n q) (is-system q) (eqb q 51) (ne-eqb q 52 (λ e. ne (sym e)))))
-    (cases-eq 52 q)
+    (λ (ne : 52 ≡ q → ⊥). cond-false (eqb 52 q) v (pos 0) (ne_eqb 52 q ne) ∙ sym (rest (is-account n q) (is-system q) (eqb q 51) (ne_eqb q 52 (λ e. ne (sym e)))))
+    (cases_eq 52 q)
   where
     rest : (a b c : Bool) → eqb q 52 ≡ false → cond a (pos 0) (cond b (pos 0) (cond c (pos 0) (cond (eqb q 52) v (pos 0)))) ≡ pos 0
     rest true b c e = refl
@@ -130,18 +123,18 @@ systems-same n f g h q = ap (λ z. cond (is-account n q) (pos 0) (cond (is-syste
 pub accounts-same : (n : ℕ) (f g : ℕ → ℤ) → ((a : ℕ) → 1 ≤ a → a ≤ n → f a ≡ g a) → (q : ℕ) → amount-of n (to-accounts f) q ≡ amount-of n (to-accounts g) q
 accounts-same n f g h q =
     accounts-have n f q
-    ∙ ⊎-elim
+    ∙ ⊎_elim
     (λ (s : is-account n q ≡ true).
-    let p = and-parts (leb 1 q) (leb q n) s in
-    ap (λ z. cond (is-account n q) z (pos 0)) (h q (leb-true 1 q (p .0)) (leb-true q n (p .1))))
+    let p = and_parts (leb 1 q) (leb q n) s in
+    ap (λ z. cond (is-account n q) z (pos 0)) (h q (leb-true 1 q p.0) (leb-true q n p.1)))
     (λ (s : is-account n q ≡ false). cond-false (is-account n q) _ _ s ∙ sym (cond-false (is-account n q) _ _ s))
-    (cases-bool (is-account n q))
+    (cases_Bool (is-account n q))
     ∙ sym (accounts-have n g q)
 
 -- a sum of negated amounts
-pub negated : {X : Type 0} (owner : X → ℕ) (f : X → ℤ) (k : ℕ) (xs : List X) → sum-over (λ x. owned-by (owner x) k (negℤ (f x))) xs ≡ negℤ (sum-over (λ x. owned-by (owner x) k (f x)) xs)
-negated owner f k xs = sum-same _ _ (λ x. turned (eqb (owner x) k) (f x)) xs ∙ sum-neg (λ x. owned-by (owner x) k (f x)) xs
+pub negated : {X : Type 0} (owner : X → ℕ) (f : X → ℤ) (k : ℕ) (xs : List X) → sum_over (λ x. owned_by (owner x) k (neg_ℤ (f x))) xs ≡ neg_ℤ (sum_over (λ x. owned_by (owner x) k (f x)) xs)
+negated owner f k xs = sum_same _ _ (λ x. turned (eqb (owner x) k) (f x)) xs ∙ sum-neg (λ x. owned_by (owner x) k (f x)) xs
   where
-    turned : (b : Bool) (z : ℤ) → cond b (negℤ z) (pos 0) ≡ negℤ (cond b z (pos 0))
+    turned : (b : Bool) (z : ℤ) → cond b (neg_ℤ z) (pos 0) ≡ neg_ℤ (cond b z (pos 0))
     turned true z = refl
     turned false z = refl

@@ -1,28 +1,19 @@
 -- The day's table: the sheets of all scopes added, and the items of the day.
-use mathlib.Core.Bool.{cond}
-use mathlib.Core.List.{List}
-use mathlib.Core.Path.{_≡_}
-use Prim.Native.Nat.{ℕ}
-use lib.Dec.{eqb, leb, ltb}
-use lib.IntN.{ℤ, pos, negℤ, _+ℤ_}
-use Rattle·std.specs.declared.option.Option.{Option}
-use Rattle·std.specs.declared.option.Option.the-variants.{Some, None}
-use Rattle·std.specs.declared.result.Result.{Result}
-use Rattle·std.specs.declared.result.Result.the-variants.{Ok, Err}
-use Rattle·faults.specs.Places.{at, fault-of}
-use Rattle·faults.specs.declared.fault.Fault.{Fault}
-use Rattle·faults.specs.declared.fault.Place.{Place}
-use Rattle·faults.specs.declared.refusal.Refusal.the-variants.{AboveHeading, NoPrice, NoPurchases, OutOfRange}
-use Rattle·dayfile.specs.Records.{Records}
-use Rattle·closing.specs.Prices.{first-unpriced}
-use Rattle·codes.specs.Cells.{cell}
-use Rattle·codes.specs.Sums.{sum-over}
-use Rattle·codes.specs.declared.code.Code.{Code}
-use Rattle·codes.specs.declared.code.Code.the-variants.{A1, A2, A3, A4, B1, B2, B3, B4, F1, F2, F3, F4, F5, F6}
-use Rattle·codes.specs.declared.table.Table.{Table}
-use Rattle·amounts.specs.Amounts.{Scope, first-lacking, lacking, scopes}
-use Rattle·items.specs.Items.{all-fines, all-penalties, fines, penalties}
-use Rattle·settlement·specs.Sheets.{ByKind, amount-of, sheet, to-accounts, to-nobody, to-universal-service, to-working-capital}
+use Rattle.std.specs.Prelude.{◌≡◌, ℕ, cond, List, ℤ, pos, ◌+ℤ◌, neg_ℤ, Some, None, Ok, Err, Option, Result, ◌==◌, nat_lt}
+use Rattle.faults.specs.Places.{at, fault-of}
+use Rattle.faults.specs.declared.fault.Fault.{Fault}
+use Rattle.faults.specs.declared.fault.Place.{Place}
+use Rattle.faults.specs.declared.refusal.Refusal.TheVariants.{AboveHeading, NoPrice, NoPurchases, OutOfRange}
+use Rattle.dayfile.specs.Records.{Records}
+use Rattle.closing.specs.Prices.{first-unpriced}
+use Rattle.codes.specs.Cells.{cell}
+use Rattle.codes.specs.Sums.{sum_over}
+use Rattle.codes.specs.declared.code.Code.{Code}
+use Rattle.codes.specs.declared.code.Code.TheVariants.{A1, A2, A3, A4, B1, B2, B3, B4, F1, F2, F3, F4, F5, F6}
+use Rattle.codes.specs.declared.table.Table.{Table}
+use Rattle.amounts.specs.Amounts.{Scope, first-lacking, lacking, scopes}
+use Rattle.items.specs.Items.{all-fines, all-penalties, fines, penalties}
+use Rattle.settlement.specs.Sheets.{ByKind, amount-of, sheet, to-accounts, to-nobody, to-universal-service, to-working-capital}
 
 -- the items of the day: penalties and fines are charged to accounts and paid to the funds. No item is shared, so the
 -- meaning of the rule is not used.
@@ -37,21 +28,21 @@ items parts r B3 = to-nobody
 items parts r B4 = to-nobody
 items parts r F1 = to-nobody
 items parts r F2 = to-nobody
-items parts r F3 = to-accounts (λ account. negℤ (penalties r account))
+items parts r F3 = to-accounts (λ account. neg_ℤ (penalties r account))
 items parts r F4 = to-working-capital (all-penalties r)
-items parts r F5 = to-accounts (λ account. negℤ (fines r account))
+items parts r F5 = to-accounts (λ account. neg_ℤ (fines r account))
 items parts r F6 = to-universal-service (all-fines r)
 
 abbrev pub item : (ℕ → List ℕ → List ℕ) → Records → Code → ℕ → ℤ
-item parts r code party = amount-of (r .heading .accounts) (items parts r code) party
+item parts r code party = amount-of r.heading.accounts (items parts r code) party
 
 -- the sheets of some scopes together
 abbrev pub sheets : (ℕ → List ℕ → List ℕ) → Records → List Scope → Code → ℕ → ℤ
-sheets parts r scopes code party = sum-over (λ scope. sheet parts r scope code party) scopes
+sheets parts r scopes code party = sum_over (λ scope. sheet parts r scope code party) scopes
 
 -- a cell of the day
 abbrev pub day-cell : (ℕ → List ℕ → List ℕ) → Records → Code → ℕ → ℤ
-day-cell parts r code party = sheets parts r (scopes (r .heading)) code party +ℤ item parts r code party
+day-cell parts r code party = sheets parts r (scopes r.heading) code party +ℤ item parts r code party
 
 -- every cell of a table is so
 abbrev pub Holds : Table → (Code → ℕ → ℤ) → Type 0
@@ -79,8 +70,8 @@ settle-refusal r = or-unpriced r (lacking-fault (first-lacking r))
 -- why an hour has no sheet, if so
 abbrev pub sheet-refusal : Records → ℕ → Option Fault
 sheet-refusal r hour =
-    cond (eqb hour 0) (Some (fault-of OutOfRange (at 0 0 hour)))
-    (cond (ltb (r .heading .hours) hour) (Some (fault-of AboveHeading (at 0 0 hour)))
+    cond (hour == 0) (Some (fault-of OutOfRange (at 0 0 hour)))
+    (cond (nat_lt r.heading.hours hour) (Some (fault-of AboveHeading (at 0 0 hour)))
     (or-unpriced r (cond (lacking r hour) (Some (no-purchases hour)) None)))
 
 abbrev pub outcome : Option Fault → Result (Unit {0}) Fault

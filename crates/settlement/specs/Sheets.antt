@@ -1,19 +1,14 @@
 -- The sheet of a scope: an amount for every code and party.
-use mathlib.Core.Bool.{Bool, cond, _&&_}
-use mathlib.Core.List.{List}
-use Prim.Native.Nat.{ℕ, _-_}
-use lib.Dec.{eqb, leb}
-use lib.IntN.{ℤ, pos, negℤ}
-use lib.ListN.{getD}
-use Rattle·dayfile.specs.Records.{Records}
-use Rattle·sharing.specs.Signed.{signed-parts}
-use Rattle·codes.specs.Codes.{basis-of}
-use Rattle·codes.specs.declared.code.Basis.{Basis}
-use Rattle·codes.specs.declared.code.Basis.the-variants.{Own, Purchases}
-use Rattle·codes.specs.declared.code.Code.{Code}
-use Rattle·codes.specs.declared.code.Code.the-variants.{A1, A2, A3, A4, B1, B2, B3, B4, F1, F2, F3, F4, F5, F6}
-use Rattle·amounts.specs.Amounts.{Scope, energy, imbalance, reserve, shared, weights}
-use Rattle·valuation.specs.declared.market.Market.the-variants.{DayAhead, RealTime}
+use Rattle.std.specs.Prelude.{ℕ, ◌-◌, Bool, cond, ◌&&◌, List, ℤ, pos, neg_ℤ, ◌==◌, nat_le, slice_index_or}
+use Rattle.dayfile.specs.Records.{Records}
+use Rattle.sharing.specs.Signed.{signed_parts}
+use Rattle.codes.specs.Codes.{basis-of}
+use Rattle.codes.specs.declared.code.Basis.{Basis}
+use Rattle.codes.specs.declared.code.Basis.TheVariants.{Own, Purchases}
+use Rattle.codes.specs.declared.code.Code.{Code}
+use Rattle.codes.specs.declared.code.Code.TheVariants.{A1, A2, A3, A4, B1, B2, B3, B4, F1, F2, F3, F4, F5, F6}
+use Rattle.amounts.specs.Amounts.{Scope, energy, imbalance, reserve, shared, weights}
+use Rattle.valuation.specs.declared.market.Market.TheVariants.{DayAhead, RealTime}
 
 -- what the parties of each kind have under a code: accounts and external systems by their numbers from 1, and the two funds
 pub record ByKind : Type 0 where
@@ -40,10 +35,10 @@ to-universal-service amount = record { account = λ _. pos 0; system = λ _. pos
 -- the amount of a party, by its number, in a day of so many accounts; 0 where there is no such party
 abbrev pub amount-of : ℕ → ByKind → ℕ → ℤ
 amount-of accounts row party =
-    cond (leb 1 party && leb party accounts) (row .account party)
-    (cond (leb 41 party && leb party 44) (row .system (party - 40))
-    (cond (eqb party 51) (row .working-capital)
-    (cond (eqb party 52) (row .universal-service) (pos 0))))
+    cond (nat_le 1 party && nat_le party accounts) (row.account party)
+    (cond (nat_le 41 party && nat_le party 44) (row.system (party - 40))
+    (cond (party == 51) row.working-capital
+    (cond (party == 52) row.universal-service (pos 0))))
 
 -- what the parties' own records come to, under the codes that are not shared
 abbrev pub own : Records → Scope → Code → ByKind
@@ -56,7 +51,7 @@ own r scope B2 = to-nobody
 own r scope B3 = to-accounts (reserve r RealTime scope)
 own r scope B4 = to-nobody
 own r scope F1 = to-nobody
-own r scope F2 = to-systems (λ system. negℤ (imbalance r scope system))
+own r scope F2 = to-systems (λ system. neg_ℤ (imbalance r scope system))
 own r scope F3 = to-nobody
 own r scope F4 = to-nobody
 own r scope F5 = to-nobody
@@ -64,7 +59,7 @@ own r scope F6 = to-nobody
 
 -- an account's part of the amount that a code shares, under a rule's meaning
 abbrev pub part : (ℕ → List ℕ → List ℕ) → Records → Scope → Code → ℕ → ℤ
-part parts r scope code account = getD (signed-parts parts (shared r scope code) (weights (basis-of code) r scope)) (account - 1) (pos 0)
+part parts r scope code account = slice_index_or (signed_parts parts (shared r scope code) (weights (basis-of code) r scope)) (account - 1) (pos 0)
 
 -- by its basis a code is shared or not
 abbrev pub on-basis : Basis → (ℕ → List ℕ → List ℕ) → Records → Scope → Code → ByKind
@@ -72,4 +67,4 @@ on-basis Own parts r scope code = own r scope code
 on-basis Purchases parts r scope code = to-accounts (part parts r scope code)
 
 abbrev pub sheet : (ℕ → List ℕ → List ℕ) → Records → Scope → Code → ℕ → ℤ
-sheet parts r scope code party = amount-of (r .heading .accounts) (on-basis (basis-of code) parts r scope code) party
+sheet parts r scope code party = amount-of r.heading.accounts (on-basis (basis-of code) parts r scope code) party

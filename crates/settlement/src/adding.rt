@@ -1,31 +1,24 @@
 // Adding amounts to a table.
-ghost use mathlib.Core.Bool.{true};
-ghost use mathlib.Core.Path.{_≡_};
-ghost use Prim.Native.Nat.{ℕ, _<_, _≤_};
-ghost use lib.IntN.{ℤ, pos, natAbs};
-ghost use lib.ListN.{length, getD};
-ghost use Rattle·std.specs.Options.{isSome};
-ghost use Rattle·std.specs.shelf.Lists.{All};
-ghost use Rattle·codes.specs.Cells.{cell};
-ghost use Rattle·codes.specs.Parties.{party-place, system-party};
-ghost use Rattle·codes.specs.Sums.{sum-over};
-ghost use Rattle·valuation.specs.Valid.{ValidInterconnection};
-ghost use Rattle·amounts.specs.Amounts.{owned-by};
-ghost use Rattle·settlement·specs.Grown.{Added, RoomIn, RowAdded, listed-amount};
+ghost use Rattle.std.specs.Prelude.{◌≡◌, ℕ, ◌<◌, ◌≤◌, true, length, ℤ, pos, is_some, slice_index_or, unsigned_abs};
+ghost use Rattle.std.specs.List.{AllByRecursion as All};
+ghost use Rattle.codes.specs.Cells.{cell};
+ghost use Rattle.codes.specs.Parties.{party-place, system-party};
+ghost use Rattle.codes.specs.Sums.{sum_over};
+ghost use Rattle.valuation.specs.Valid.{ValidInterconnection};
+ghost use Rattle.amounts.specs.Amounts.{owned_by};
+ghost use Rattle.settlement.specs.Grown.{Added, RoomIn, RowAdded, listed-amount};
+
 use amounts::sums::Term;
 use codes::code::Code;
 use codes::table::Table;
-use dayfile::record::Fine;
-use dayfile::record::Interconnection;
-use dayfile::record::Position;
-use dayfile::record::Reserve;
+use dayfile::record::{Fine, Interconnection, Position, Reserve};
 
 // Adds to one cell.
 pub(crate) fn add(table: &mut Table, code: Code, party: u8, amount: i64)
-    requires known { ⌜ isSome (party-place party) ≡ true ⌝ }
-    requires before { ⌜ natAbs (cell (now table) code party) ≤ 2000000000000000000 ⌝ }
-    requires more { ⌜ natAbs amount ≤ 1000000000000000000 ⌝ }
-    ensures { λ _. ⌜ Added (now (table .entry)) (now (table .exit)) code party amount ⌝ }
+    requires known { is_some (party-place party) ≡ true }
+    requires before { unsigned_abs (cell table.old code party) ≤ 2000000000000000000 }
+    requires more { unsigned_abs amount ≤ 1000000000000000000 }
+    ensures { Added table.old table.new code party amount }
 {
     let old = table.amount(code, party);
     table.put(code, party, old + amount);
@@ -39,9 +32,9 @@ pub(crate) trait Payee<X> {
     ghost listed: { Self → X → Type 0 };
 
     fn payee(&self, x: &X) -> u8
-        requires { ⌜ listed (now self) (now x) ⌝ }
-        ensures value { λ r. ⌜ r ≡ party (now (self .entry)) (now (x .entry)) ⌝ }
-        ensures known { λ r. ⌜ isSome (party-place r) ≡ true ⌝ };
+        requires { listed self.now x.now }
+        ensures value { result ≡ party self.now x.now }
+        ensures known { is_some (party-place result) ≡ true };
 }
 
 // Adds each record's amount to its party's cell under a code, in one pass.
@@ -52,11 +45,11 @@ pub(crate) fn add_each<X, P: Payee<X>, T: Term<X>>(
     code: Code,
     table: &mut Table,
 )
-    requires few { ⌜ length (now xs) ≤ 1000 ⌝ }
-    requires valid { ⌜ All (T·Term .valid (now term)) (now xs) ⌝ }
-    requires listed { ⌜ All (P·Payee .listed (now payee)) (now xs) ⌝ }
-    requires room { ⌜ RoomIn (now table) code ⌝ }
-    ensures { λ _. ⌜ RowAdded (now (table .entry)) (now (table .exit)) code (λ q. sum-over (λ x. owned-by (P·Payee .party (now (payee .entry)) x) q (T·Term .adds (now (term .entry)) x)) (now (xs .entry))) ⌝ }
+    requires few { length xs.now ≤ 1000 }
+    requires valid { All (T.Term.valid term.now) xs.now }
+    requires listed { All (P.Payee.listed payee.now) xs.now }
+    requires room { RoomIn table.old code }
+    ensures { RowAdded table.old table.new code (λ q. sum_over (λ x. owned_by (P.Payee.party payee.now x) q (T.Term.adds term.now x)) xs.now) }
 {
     for x in xs {
         add(table, code, payee.payee(x), term.term(x));
@@ -65,10 +58,10 @@ pub(crate) fn add_each<X, P: Payee<X>, T: Term<X>>(
 
 // Adds an amount for each account, account 1 first, under a code.
 pub(crate) fn add_listed(amounts: &[i64], code: Code, table: &mut Table)
-    requires few { ⌜ length (now amounts) ≤ 32 ⌝ }
-    requires small { ⌜ ((k : ℕ) → k < length (now amounts) → natAbs (getD (now amounts) k (pos 0)) ≤ 100000000000000000) ⌝ }
-    requires room { ⌜ RoomIn (now table) code ⌝ }
-    ensures { λ _. ⌜ RowAdded (now (table .entry)) (now (table .exit)) code (listed-amount (now (amounts .entry))) ⌝ }
+    requires few { length amounts.now ≤ 32 }
+    requires small { (k : ℕ) → k < length amounts.now → unsigned_abs (slice_index_or amounts.now k (pos 0)) ≤ 100000000000000000 }
+    requires room { RoomIn table.old code }
+    ensures { RowAdded table.old table.new code (listed-amount amounts.now) }
 {
     for i in 0..amounts.len() {
         add(table, code, i as u8 + 1, amounts[i]);
@@ -77,19 +70,19 @@ pub(crate) fn add_listed(amounts: &[i64], code: Code, table: &mut Table)
 
 // An account is the party of its own number.
 fn account_party(account: u8) -> u8
-    requires low { ⌜ 1 ≤ account ⌝ }
-    requires high { ⌜ account ≤ 32 ⌝ }
-    ensures value { λ r. ⌜ r ≡ account ⌝ }
-    ensures known { λ r. ⌜ isSome (party-place r) ≡ true ⌝ }
+    requires low { 1 ≤ account }
+    requires high { account ≤ 32 }
+    ensures value { result ≡ account }
+    ensures known { is_some (party-place result) ≡ true }
 {
     account
 }
 
 fn system_party(system: u8) -> u8
-    requires low { ⌜ 1 ≤ system ⌝ }
-    requires high { ⌜ system ≤ 4 ⌝ }
-    ensures value { λ r. ⌜ r ≡ system-party system ⌝ }
-    ensures known { λ r. ⌜ isSome (party-place r) ≡ true ⌝ }
+    requires low { 1 ≤ system }
+    requires high { system ≤ 4 }
+    ensures value { result ≡ system-party system }
+    ensures known { is_some (party-place result) ≡ true }
 {
     40 + system
 }
@@ -98,30 +91,30 @@ fn system_party(system: u8) -> u8
 #[derive(Clone, Copy)]
 pub(crate) struct ItsAccount;
 
-pub(crate) impl Payee<Position> for ItsAccount as PositionAccount {
-    ghost party = { λ s x. x .account };
+impl Payee<Position> for ItsAccount {
+    ghost party = { λ s x. x.account };
 
-    ghost listed = { λ s x. (1 ≤ x .account) × (x .account ≤ 32) };
+    ghost listed = { λ s x. (1 ≤ x.account) × (x.account ≤ 32) };
 
     fn payee(&self, x: &Position) -> u8 {
         account_party(x.account)
     }
 }
 
-pub(crate) impl Payee<Reserve> for ItsAccount as ReserveAccount {
-    ghost party = { λ s x. x .account };
+impl Payee<Reserve> for ItsAccount {
+    ghost party = { λ s x. x.account };
 
-    ghost listed = { λ s x. (1 ≤ x .account) × (x .account ≤ 32) };
+    ghost listed = { λ s x. (1 ≤ x.account) × (x.account ≤ 32) };
 
     fn payee(&self, x: &Reserve) -> u8 {
         account_party(x.account)
     }
 }
 
-pub(crate) impl Payee<Fine> for ItsAccount as FineAccount {
-    ghost party = { λ s x. x .account };
+impl Payee<Fine> for ItsAccount {
+    ghost party = { λ s x. x.account };
 
-    ghost listed = { λ s x. (1 ≤ x .account) × (x .account ≤ 32) };
+    ghost listed = { λ s x. (1 ≤ x.account) × (x.account ≤ 32) };
 
     fn payee(&self, x: &Fine) -> u8 {
         account_party(x.account)
@@ -132,8 +125,8 @@ pub(crate) impl Payee<Fine> for ItsAccount as FineAccount {
 #[derive(Clone, Copy)]
 pub(crate) struct ItsSystem;
 
-pub(crate) impl Payee<Interconnection> for ItsSystem as InterconnectionSystem {
-    ghost party = { λ s x. system-party (x .system) };
+impl Payee<Interconnection> for ItsSystem {
+    ghost party = { λ s x. system-party x.system };
 
     ghost listed = { λ s x. ValidInterconnection x };
 

@@ -1,23 +1,13 @@
 // Amounts of an hour that are not shared: what each party's own records come to.
-ghost use mathlib.Core.Path.{_≡_};
-ghost use Rattle·book.specs.Books.{held};
-ghost use Rattle·valuation.specs.Valid.{Sound};
-ghost use Rattle·amounts.specs.Amounts.{energy, imbalance, reserve};
-ghost use lib.IntN.{negℤ};
-ghost use Rattle·settlement·specs.Grown.{RoomIn, RowAdded};
-ghost use Rattle·settlement·specs.Sheets.{amount-of, own, to-accounts, to-systems};
-use crate::adding::InterconnectionSystem;
-use crate::adding::ItsAccount;
-use crate::adding::ItsSystem;
-use crate::adding::PositionAccount;
-use crate::adding::ReserveAccount;
-use crate::adding::add_each;
-use amounts::scope::EnergyOf;
-use amounts::scope::EnergyOfTerm;
-use amounts::scope::ImbalanceOf;
-use amounts::scope::ImbalanceOfTerm;
-use amounts::scope::ReserveOf;
-use amounts::scope::ReserveOfTerm;
+ghost use Rattle.std.specs.Prelude.{◌≡◌, neg_ℤ};
+ghost use Rattle.book.specs.Books.{held};
+ghost use Rattle.valuation.specs.Valid.{Sound};
+ghost use Rattle.amounts.specs.Amounts.{energy, imbalance, reserve};
+ghost use Rattle.settlement.specs.Grown.{RoomIn, RowAdded};
+ghost use Rattle.settlement.specs.Sheets.{amount-of, own, to-accounts, to-systems};
+
+use crate::adding::{ItsAccount, ItsSystem, add_each};
+use amounts::scope::{EnergyOf, ImbalanceOf, ReserveOf};
 use book::book::Book;
 use codes::code::Code;
 use codes::table::Table;
@@ -32,10 +22,10 @@ fn add_energy<'a>(
     code: Code,
     table: &mut Table,
 )
-    requires sound { ⌜ Sound (held (now book)) ⌝ }
-    requires priced { ⌜ now (now prices .prices) ≡ held (now book) .prices ⌝ }
-    requires room { ⌜ RoomIn (now table) code ⌝ }
-    ensures { λ _. ⌜ RowAdded (now (table .entry)) (now (table .exit)) code (amount-of (now (book .entry) .heading .accounts) (to-accounts (energy (held (now (book .entry))) market hour))) ⌝ }
+    requires sound { Sound (held book.now) }
+    requires priced { prices.now.prices.now ≡ (held book.now).prices }
+    requires room { RoomIn table.old code }
+    ensures { RowAdded table.old table.new code (amount-of book.now.heading.accounts (to-accounts (energy (held book.now) market hour))) }
 {
     let term = EnergyOf {
         prices,
@@ -46,18 +36,18 @@ fn add_energy<'a>(
 }
 
 fn add_reserve(book: &Book, market: Market, hour: u8, code: Code, table: &mut Table)
-    requires sound { ⌜ Sound (held (now book)) ⌝ }
-    requires room { ⌜ RoomIn (now table) code ⌝ }
-    ensures { λ _. ⌜ RowAdded (now (table .entry)) (now (table .exit)) code (amount-of (now (book .entry) .heading .accounts) (to-accounts (reserve (held (now (book .entry))) market hour))) ⌝ }
+    requires sound { Sound (held book.now) }
+    requires room { RoomIn table.old code }
+    ensures { RowAdded table.old table.new code (amount-of book.now.heading.accounts (to-accounts (reserve (held book.now) market hour))) }
 {
     let term = ReserveOf { market, hour };
     add_each(&ItsAccount, &term, book.reserves.as_slice(), code, table);
 }
 
 fn add_imbalance(book: &Book, hour: u8, code: Code, table: &mut Table)
-    requires sound { ⌜ Sound (held (now book)) ⌝ }
-    requires room { ⌜ RoomIn (now table) code ⌝ }
-    ensures { λ _. ⌜ RowAdded (now (table .entry)) (now (table .exit)) code (amount-of (now (book .entry) .heading .accounts) (to-systems (λ system. negℤ (imbalance (held (now (book .entry))) hour system)))) ⌝ }
+    requires sound { Sound (held book.now) }
+    requires room { RoomIn table.old code }
+    ensures { RowAdded table.old table.new code (amount-of book.now.heading.accounts (to-systems (λ system. neg_ℤ (imbalance (held book.now) hour system)))) }
 {
     let term = ImbalanceOf { hour };
     add_each(
@@ -77,10 +67,10 @@ pub(crate) fn add_own<'a>(
     code: Code,
     table: &mut Table,
 )
-    requires sound { ⌜ Sound (held (now book)) ⌝ }
-    requires priced { ⌜ now (now prices .prices) ≡ held (now book) .prices ⌝ }
-    requires room { ⌜ RoomIn (now table) code ⌝ }
-    ensures { λ _. ⌜ RowAdded (now (table .entry)) (now (table .exit)) code (amount-of (now (book .entry) .heading .accounts) (own (held (now (book .entry))) hour code)) ⌝ }
+    requires sound { Sound (held book.now) }
+    requires priced { prices.now.prices.now ≡ (held book.now).prices }
+    requires room { RoomIn table.old code }
+    ensures { RowAdded table.old table.new code (amount-of book.now.heading.accounts (own (held book.now) hour code)) }
 {
     match code {
         Code::A1 => add_energy(book, prices, Market::DayAhead, hour, code, table),

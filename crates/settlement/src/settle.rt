@@ -1,27 +1,22 @@
 // Settling a day.
-ghost use mathlib.Core.Bool.{true, false};
-ghost use mathlib.Core.Path.{_≡_};
-ghost use Prim.Native.Nat.{ℕ, _<_, _≤_};
-ghost use lib.ListN.{length};
-ghost use Rattle·std.specs.declared.option.Option.the-variants.{None};
-ghost use Rattle·book.specs.Books.{held};
-ghost use Rattle·book.specs.Soundness.{sound-records};
-ghost use Rattle·codes.specs.Cells.{empty-cells};
-ghost use Rattle·codes.specs.declared.code.Code.{Code};
-ghost use Rattle·valuation.specs.Valid.{Sound};
-ghost use Rattle·amounts.specs.Amounts.{first-lacking, lacking, scopes};
-ghost use Rattle·settlement·specs.Days.{Filled, Holds, day-cell, lacking-fault, outcome, settle-refusal, sheets};
-ghost use Rattle·settlement·specs.Grown.{Penalized};
+ghost use Rattle.std.specs.Prelude.{◌≡◌, ℕ, ◌<◌, ◌≤◌, true, false, length, None};
+ghost use Rattle.book.specs.Books.{held};
+ghost use Rattle.book.specs.Soundness.{sound-records};
+ghost use Rattle.codes.specs.Cells.{empty-cells};
+ghost use Rattle.codes.specs.declared.code.Code.{Code};
+ghost use Rattle.valuation.specs.Valid.{Sound};
+ghost use Rattle.amounts.specs.Amounts.{first-lacking, lacking, scopes};
+ghost use Rattle.settlement.specs.Days.{Filled, Holds, day-cell, lacking-fault, outcome, settle-refusal, sheets};
+ghost use Rattle.settlement.specs.Grown.{Penalized};
+
 use crate::items::add_items;
 use crate::shared::is_lacking;
-use crate::sheet::add_sheet;
-use crate::sheet::put_weights;
+use crate::sheet::{add_sheet, put_weights};
 use book::book::Book;
 use closing::prices::first_unpriced;
 use codes::party::ACCOUNTS;
 use codes::table::Table;
-use faults::fault::Fault;
-use faults::fault::Place;
+use faults::fault::{Fault, Place};
 use faults::refusal::Refusal;
 use items::penalties::put_penalties;
 use price_grid::grid::PriceGrid;
@@ -29,10 +24,10 @@ use sharing::rule::Sharing;
 
 // The first hour with an amount to share and nobody to share it by.
 fn first_lacking<'a>(book: &Book, prices: &'a PriceGrid<'a>, purchases: &mut [u64]) -> Option<u8>
-    requires sound { ⌜ Sound (held (now book)) ⌝ }
-    requires priced { ⌜ now (now prices .prices) ≡ held (now book) .prices ⌝ }
-    requires weights { ⌜ length (now purchases) ≡ now book .heading .accounts ⌝ }
-    ensures { λ r. ⌜ r ≡ first-lacking (held (now (book .entry))) ⌝ }
+    requires sound { Sound (held book.now) }
+    requires priced { prices.now.prices.now ≡ (held book.now).prices }
+    requires weights { length purchases.old ≡ book.now.heading.accounts }
+    ensures { result ≡ first-lacking (held book.now) }
 {
     for h in 0..book.heading.hours {
         put_weights(book, h + 1, purchases);
@@ -52,13 +47,13 @@ fn add_sheets<'a, R: Sharing>(
     shares: &mut [i64],
     table: &mut Table,
 )
-    requires sound { ⌜ Sound (held (now book)) ⌝ }
-    requires priced { ⌜ now (now prices .prices) ≡ held (now book) .prices ⌝ }
-    requires borne { ⌜ first-lacking (held (now book)) ≡ None ⌝ }
-    requires weights { ⌜ length (now purchases) ≡ now book .heading .accounts ⌝ }
-    requires places { ⌜ length (now shares) ≡ now book .heading .accounts ⌝ }
-    requires empty { ⌜ now table .cells ≡ empty-cells ⌝ }
-    ensures { λ _. ⌜ Holds (now (table .exit)) (sheets (R·Sharing .parts (now (rule .entry))) (held (now (book .entry))) (scopes (now (book .entry) .heading))) ⌝ }
+    requires sound { Sound (held book.now) }
+    requires priced { prices.now.prices.now ≡ (held book.now).prices }
+    requires borne { first-lacking (held book.now) ≡ None }
+    requires weights { length purchases.old ≡ book.now.heading.accounts }
+    requires places { length shares.old ≡ book.now.heading.accounts }
+    requires empty { table.old.cells ≡ empty-cells }
+    ensures { Holds table.new (sheets (R.Sharing.parts rule.now) (held book.now) (scopes book.now.heading)) }
 {
     for h in 0..book.heading.hours {
         put_weights(book, h + 1, purchases);
@@ -68,10 +63,10 @@ fn add_sheets<'a, R: Sharing>(
 
 // Writes the penalties of each account.
 fn charge(book: &Book, sums: &mut [i64], charged: &mut [i64])
-    requires sound { ⌜ Sound (held (now book)) ⌝ }
-    requires sums { ⌜ length (now sums) ≡ now book .heading .accounts ⌝ }
-    requires places { ⌜ length (now charged) ≡ now book .heading .accounts ⌝ }
-    ensures { λ _. ⌜ Penalized (held (now (book .entry))) (now (charged .exit)) ⌝ }
+    requires sound { Sound (held book.now) }
+    requires sums { length sums.old ≡ book.now.heading.accounts }
+    requires places { length charged.old ≡ book.now.heading.accounts }
+    ensures { Penalized (held book.now) charged.new }
 {
     put_penalties(
         book.reserves.as_slice(),
@@ -91,13 +86,13 @@ fn settle_with<'a, R: Sharing>(
     charged: &mut [i64],
     table: &mut Table,
 ) -> Result<(), Fault>
-    requires sound { ⌜ Sound (held (now book)) ⌝ }
-    requires priced { ⌜ now (now prices .prices) ≡ held (now book) .prices ⌝ }
-    requires weights { ⌜ length (now purchases) ≡ now book .heading .accounts ⌝ }
-    requires places { ⌜ length (now shares) ≡ now book .heading .accounts ⌝ }
-    requires charges { ⌜ length (now charged) ≡ now book .heading .accounts ⌝ }
-    ensures value { λ r. ⌜ r ≡ outcome (lacking-fault (first-lacking (held (now (book .entry))))) ⌝ }
-    ensures after { λ _. ⌜ Filled (lacking-fault (first-lacking (held (now (book .entry))))) (now (table .entry)) (now (table .exit)) (day-cell (R·Sharing .parts (now (rule .entry))) (held (now (book .entry)))) ⌝ }
+    requires sound { Sound (held book.now) }
+    requires priced { prices.now.prices.now ≡ (held book.now).prices }
+    requires weights { length purchases.old ≡ book.now.heading.accounts }
+    requires places { length shares.old ≡ book.now.heading.accounts }
+    requires charges { length charged.old ≡ book.now.heading.accounts }
+    ensures value { result ≡ outcome (lacking-fault (first-lacking (held book.now))) }
+    ensures after { Filled (lacking-fault (first-lacking (held book.now))) table.old table.new (day-cell (R.Sharing.parts rule.now) (held book.now)) }
 {
     match first_lacking(book, prices, purchases) {
         Some(hour) => Err(Fault::new(Refusal::NoPurchases, Place::new(0, 0, hour))),
@@ -117,10 +112,10 @@ fn settle_at<'a, R: Sharing>(
     rule: &R,
     table: &mut Table,
 ) -> Result<(), Fault>
-    requires sound { ⌜ Sound (held (now book)) ⌝ }
-    requires priced { ⌜ now (now prices .prices) ≡ held (now book) .prices ⌝ }
-    ensures value { λ r. ⌜ r ≡ outcome (lacking-fault (first-lacking (held (now (book .entry))))) ⌝ }
-    ensures after { λ _. ⌜ Filled (lacking-fault (first-lacking (held (now (book .entry))))) (now (table .entry)) (now (table .exit)) (day-cell (R·Sharing .parts (now (rule .entry))) (held (now (book .entry)))) ⌝ }
+    requires sound { Sound (held book.now) }
+    requires priced { prices.now.prices.now ≡ (held book.now).prices }
+    ensures value { result ≡ outcome (lacking-fault (first-lacking (held book.now))) }
+    ensures after { Filled (lacking-fault (first-lacking (held book.now))) table.old table.new (day-cell (R.Sharing.parts rule.now) (held book.now)) }
 {
     let n = book.heading.accounts as usize;
     let mut purchases = [0u64; ACCOUNTS];
@@ -138,9 +133,9 @@ fn settle_at<'a, R: Sharing>(
 }
 
 fn settle_priced<R: Sharing>(book: &Book, rule: &R, table: &mut Table) -> Result<(), Fault>
-    requires { ⌜ Sound (held (now book)) ⌝ }
-    ensures value { λ r. ⌜ r ≡ outcome (lacking-fault (first-lacking (held (now (book .entry))))) ⌝ }
-    ensures after { λ _. ⌜ Filled (lacking-fault (first-lacking (held (now (book .entry))))) (now (table .entry)) (now (table .exit)) (day-cell (R·Sharing .parts (now (rule .entry))) (held (now (book .entry)))) ⌝ }
+    requires { Sound (held book.now) }
+    ensures value { result ≡ outcome (lacking-fault (first-lacking (held book.now))) }
+    ensures after { Filled (lacking-fault (first-lacking (held book.now))) table.old table.new (day-cell (R.Sharing.parts rule.now) (held book.now)) }
 {
     let prices = PriceGrid::of(book.prices.as_slice());
     settle_at(book, &prices, rule, table)
@@ -148,9 +143,9 @@ fn settle_priced<R: Sharing>(book: &Book, rule: &R, table: &mut Table) -> Result
 
 // Fills the table of a day under a rule; or refuses, and leaves the table as it was.
 pub fn settle<R: Sharing>(book: &Book, rule: &R, table: &mut Table) -> Result<(), Fault>
-    requires { ⌜ sound-records (held (now book)) ≡ true ⌝ }
-    ensures value { λ r. ⌜ r ≡ outcome (settle-refusal (held (now (book .entry)))) ⌝ }
-    ensures after { λ _. ⌜ Filled (settle-refusal (held (now (book .entry)))) (now (table .entry)) (now (table .exit)) (day-cell (R·Sharing .parts (now (rule .entry))) (held (now (book .entry)))) ⌝ }
+    requires { sound-records (held book.now) ≡ true }
+    ensures value { result ≡ outcome (settle-refusal (held book.now)) }
+    ensures after { Filled (settle-refusal (held book.now)) table.old table.new (day-cell (R.Sharing.parts rule.now) (held book.now)) }
 {
     if let Some(place) = first_unpriced(book) {
         return Err(Fault::new(Refusal::NoPrice, place));

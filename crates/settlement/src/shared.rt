@@ -1,36 +1,21 @@
 // Amounts of an hour that are shared.
-ghost use mathlib.Core.Bool.{true, false};
-ghost use mathlib.Core.Path.{_≡_};
-ghost use Prim.Native.Nat.{ℕ, _<_, _≤_};
-ghost use lib.IntN.{natAbs, _-ℤ_};
-ghost use lib.ListN.{length};
-ghost use lib.Dec.{ltb};
-ghost use Rattle·std.specs.shelf.Lists.{sum};
-ghost use Rattle·sharing.specs.Shareable.{shareable};
-ghost use Rattle·sharing.specs.Signed.{signed-parts};
-ghost use Rattle·book.specs.Books.{held};
-ghost use Rattle·codes.specs.Codes.{basis-of, code-at, code-count};
-ghost use Rattle·codes.specs.Sums.{sum-over};
-ghost use Rattle·codes.specs.declared.code.Basis.the-variants.{Purchases};
-ghost use Rattle·valuation.specs.Valid.{Sound};
-ghost use Rattle·amounts.specs.Amounts.{accounts, energy, exchange, lacking, lacks, reserve, shared, value-of-imbalance, weights};
-ghost use Rattle·settlement·specs.Grown.{RoomIn, RowAdded};
-ghost use Rattle·settlement·specs.Sheets.{amount-of, part, to-accounts};
+ghost use Rattle.std.specs.Prelude.{◌≡◌, ℕ, ◌<◌, ◌≤◌, true, false, length, ◌-ℤ◌, sum, nat_lt, unsigned_abs};
+ghost use Rattle.sharing.specs.Shareable.{shareable};
+ghost use Rattle.sharing.specs.Signed.{signed_parts};
+ghost use Rattle.book.specs.Books.{held};
+ghost use Rattle.codes.specs.Codes.{basis-of, code_at, code-count};
+ghost use Rattle.codes.specs.Sums.{sum_over};
+ghost use Rattle.codes.specs.declared.code.Basis.TheVariants.{Purchases};
+ghost use Rattle.valuation.specs.Valid.{Sound};
+ghost use Rattle.amounts.specs.Amounts.{accounts, energy, exchange, lacking, lacks, reserve, shared, value-of-imbalance, weights};
+ghost use Rattle.settlement.specs.Grown.{RoomIn, RowAdded};
+ghost use Rattle.settlement.specs.Sheets.{amount-of, part, to-accounts};
+
 use crate::adding::add_listed;
-use amounts::scope::EnergyOf;
-use amounts::scope::EnergyOfTerm;
-use amounts::scope::ExchangeOf;
-use amounts::scope::ExchangeOfTerm;
-use amounts::scope::ImbalanceValueOf;
-use amounts::scope::ImbalanceValueOfTerm;
-use amounts::scope::ReserveOf;
-use amounts::scope::ReserveOfTerm;
+use amounts::scope::{EnergyOf, ExchangeOf, ImbalanceValueOf, ReserveOf};
 use amounts::sums::sum_of;
 use book::book::Book;
-use codes::code::Basis;
-use codes::code::CODE_COUNT;
-use codes::code::CODES;
-use codes::code::Code;
+use codes::code::{Basis, CODE_COUNT, CODES, Code};
 use codes::table::Table;
 use price_grid::grid::PriceGrid;
 use sharing::rule::Sharing;
@@ -39,10 +24,10 @@ use valuation::market::Market;
 
 // The energy of all accounts together.
 fn energy_total<'a>(book: &Book, prices: &'a PriceGrid<'a>, market: Market, hour: u8) -> i64
-    requires sound { ⌜ Sound (held (now book)) ⌝ }
-    requires priced { ⌜ now (now prices .prices) ≡ held (now book) .prices ⌝ }
-    ensures value { λ r. ⌜ r ≡ sum-over (energy (held (now (book .entry))) market hour) (accounts (held (now (book .entry)))) ⌝ }
-    ensures bound { λ r. ⌜ natAbs r ≤ 44000000000000000 ⌝ }
+    requires sound { Sound (held book.now) }
+    requires priced { prices.now.prices.now ≡ (held book.now).prices }
+    ensures value { result ≡ sum_over (energy (held book.now) market hour) (accounts (held book.now)) }
+    ensures bound { unsigned_abs result ≤ 44000000000000000 }
 {
     let term = EnergyOf {
         prices,
@@ -54,19 +39,19 @@ fn energy_total<'a>(book: &Book, prices: &'a PriceGrid<'a>, market: Market, hour
 
 // The reserve of all accounts together.
 fn reserve_total(book: &Book, market: Market, hour: u8) -> i64
-    requires sound { ⌜ Sound (held (now book)) ⌝ }
-    ensures value { λ r. ⌜ r ≡ sum-over (reserve (held (now (book .entry))) market hour) (accounts (held (now (book .entry)))) ⌝ }
-    ensures bound { λ r. ⌜ natAbs r ≤ 44000000000000000 ⌝ }
+    requires sound { Sound (held book.now) }
+    ensures value { result ≡ sum_over (reserve (held book.now) market hour) (accounts (held book.now)) }
+    ensures bound { unsigned_abs result ≤ 44000000000000000 }
 {
     let term = ReserveOf { market, hour };
     sum_of(&term, book.reserves.as_slice())
 }
 
 fn exchange_total<'a>(book: &Book, prices: &'a PriceGrid<'a>, market: Market, hour: u8) -> i64
-    requires sound { ⌜ Sound (held (now book)) ⌝ }
-    requires priced { ⌜ now (now prices .prices) ≡ held (now book) .prices ⌝ }
-    ensures value { λ r. ⌜ r ≡ exchange (held (now (book .entry))) market hour ⌝ }
-    ensures bound { λ r. ⌜ natAbs r ≤ 44000000000000000 ⌝ }
+    requires sound { Sound (held book.now) }
+    requires priced { prices.now.prices.now ≡ (held book.now).prices }
+    ensures value { result ≡ exchange (held book.now) market hour }
+    ensures bound { unsigned_abs result ≤ 44000000000000000 }
 {
     let term = ExchangeOf {
         prices,
@@ -77,10 +62,10 @@ fn exchange_total<'a>(book: &Book, prices: &'a PriceGrid<'a>, market: Market, ho
 }
 
 fn imbalance_total<'a>(book: &Book, prices: &'a PriceGrid<'a>, hour: u8) -> i64
-    requires sound { ⌜ Sound (held (now book)) ⌝ }
-    requires priced { ⌜ now (now prices .prices) ≡ held (now book) .prices ⌝ }
-    ensures value { λ r. ⌜ r ≡ value-of-imbalance (held (now (book .entry))) hour ⌝ }
-    ensures bound { λ r. ⌜ natAbs r ≤ 44000000000000000 ⌝ }
+    requires sound { Sound (held book.now) }
+    requires priced { prices.now.prices.now ≡ (held book.now).prices }
+    ensures value { result ≡ value-of-imbalance (held book.now) hour }
+    ensures bound { unsigned_abs result ≤ 44000000000000000 }
 {
     let term = ImbalanceValueOf { prices, hour };
     sum_of(&term, book.interconnections.as_slice())
@@ -88,9 +73,9 @@ fn imbalance_total<'a>(book: &Book, prices: &'a PriceGrid<'a>, hour: u8) -> i64
 
 // What a market's energy leaves over, or lacks.
 fn surplus<'a>(book: &Book, prices: &'a PriceGrid<'a>, market: Market, hour: u8) -> i64
-    requires sound { ⌜ Sound (held (now book)) ⌝ }
-    requires priced { ⌜ now (now prices .prices) ≡ held (now book) .prices ⌝ }
-    ensures { λ r. ⌜ r ≡ exchange (held (now (book .entry))) market hour -ℤ sum-over (energy (held (now (book .entry))) market hour) (accounts (held (now (book .entry)))) ⌝ }
+    requires sound { Sound (held book.now) }
+    requires priced { prices.now.prices.now ≡ (held book.now).prices }
+    ensures { result ≡ exchange (held book.now) market hour -ℤ sum_over (energy (held book.now) market hour) (accounts (held book.now)) }
 {
     let exchanged = exchange_total(book, prices, market, hour);
     let earned = energy_total(book, prices, market, hour);
@@ -99,9 +84,9 @@ fn surplus<'a>(book: &Book, prices: &'a PriceGrid<'a>, market: Market, hour: u8)
 
 // The amount that a code shares.
 fn shared_amount<'a>(book: &Book, prices: &'a PriceGrid<'a>, hour: u8, code: Code) -> i64
-    requires sound { ⌜ Sound (held (now book)) ⌝ }
-    requires priced { ⌜ now (now prices .prices) ≡ held (now book) .prices ⌝ }
-    ensures { λ r. ⌜ r ≡ shared (held (now (book .entry))) hour code ⌝ }
+    requires sound { Sound (held book.now) }
+    requires priced { prices.now.prices.now ≡ (held book.now).prices }
+    ensures { result ≡ shared (held book.now) hour code }
 {
     match code {
         Code::A2 => surplus(book, prices, Market::DayAhead, hour),
@@ -115,7 +100,7 @@ fn shared_amount<'a>(book: &Book, prices: &'a PriceGrid<'a>, hour: u8, code: Cod
 }
 
 fn have_weight(weights: &[u64]) -> bool
-    ensures { λ r. ⌜ r ≡ ltb 0 (sum (now (weights .entry))) ⌝ }
+    ensures { result ≡ nat_lt 0 (sum weights.now) }
 {
     for weight in weights {
         if *weight > 0 {
@@ -133,10 +118,10 @@ fn lacks_weight<'a>(
     purchases: &[u64],
     code: Code,
 ) -> bool
-    requires sound { ⌜ Sound (held (now book)) ⌝ }
-    requires priced { ⌜ now (now prices .prices) ≡ held (now book) .prices ⌝ }
-    requires weighed { ⌜ now purchases ≡ weights Purchases (held (now book)) hour ⌝ }
-    ensures { λ r. ⌜ r ≡ lacks (held (now (book .entry))) hour code ⌝ }
+    requires sound { Sound (held book.now) }
+    requires priced { prices.now.prices.now ≡ (held book.now).prices }
+    requires weighed { purchases.now ≡ weights Purchases (held book.now) hour }
+    ensures { result ≡ lacks (held book.now) hour code }
 {
     let has_amount = shared_amount(book, prices, hour, code) != 0;
     match code.row().basis {
@@ -147,8 +132,8 @@ fn lacks_weight<'a>(
 
 // The code at a place of the table of codes.
 pub(crate) fn code_at(place: usize) -> Code
-    requires { ⌜ place < code-count ⌝ }
-    ensures { λ r. ⌜ r ≡ code-at place ⌝ }
+    requires { place < code-count }
+    ensures { result ≡ code_at place }
 {
     CODES[place].code
 }
@@ -160,10 +145,10 @@ pub(crate) fn is_lacking<'a>(
     hour: u8,
     purchases: &[u64],
 ) -> bool
-    requires sound { ⌜ Sound (held (now book)) ⌝ }
-    requires priced { ⌜ now (now prices .prices) ≡ held (now book) .prices ⌝ }
-    requires weighed { ⌜ now purchases ≡ weights Purchases (held (now book)) hour ⌝ }
-    ensures { λ r. ⌜ r ≡ lacking (held (now (book .entry))) hour ⌝ }
+    requires sound { Sound (held book.now) }
+    requires priced { prices.now.prices.now ≡ (held book.now).prices }
+    requires weighed { purchases.now ≡ weights Purchases (held book.now) hour }
+    ensures { result ≡ lacking (held book.now) hour }
 {
     for i in 0..CODE_COUNT {
         if lacks_weight(book, prices, hour, purchases, code_at(i)) {
@@ -175,9 +160,9 @@ pub(crate) fn is_lacking<'a>(
 
 // Shares what the rule will not refuse.
 fn share_out<R: Sharing>(rule: &R, amount: i64, purchases: &[u64], shares: &mut [i64])
-    requires shareable { ⌜ shareable (natAbs amount) (now purchases) ≡ true ⌝ }
-    requires places { ⌜ length (now shares) ≡ length (now purchases) ⌝ }
-    ensures { λ _. ⌜ now (shares .exit) ≡ signed-parts (R·Sharing .parts (now (rule .entry))) amount (now (purchases .entry)) ⌝ }
+    requires shareable { shareable (unsigned_abs amount) purchases.now ≡ true }
+    requires places { length shares.old ≡ length purchases.now }
+    ensures { shares.new ≡ signed_parts (R.Sharing.parts rule.now) amount purchases.now }
 {
     let _ = share_signed(rule, amount, purchases, shares);
 }
@@ -193,14 +178,14 @@ pub(crate) fn add_shared<'a, R: Sharing>(
     code: Code,
     table: &mut Table,
 )
-    requires basis { ⌜ basis-of code ≡ Purchases ⌝ }
-    requires sound { ⌜ Sound (held (now book)) ⌝ }
-    requires priced { ⌜ now (now prices .prices) ≡ held (now book) .prices ⌝ }
-    requires weighed { ⌜ now purchases ≡ weights Purchases (held (now book)) hour ⌝ }
-    requires borne { ⌜ lacks (held (now book)) hour code ≡ false ⌝ }
-    requires places { ⌜ length (now shares) ≡ now book .heading .accounts ⌝ }
-    requires room { ⌜ RoomIn (now table) code ⌝ }
-    ensures { λ _. ⌜ RowAdded (now (table .entry)) (now (table .exit)) code (amount-of (now (book .entry) .heading .accounts) (to-accounts (part (R·Sharing .parts (now (rule .entry))) (held (now (book .entry))) hour code))) ⌝ }
+    requires basis { basis-of code ≡ Purchases }
+    requires sound { Sound (held book.now) }
+    requires priced { prices.now.prices.now ≡ (held book.now).prices }
+    requires weighed { purchases.now ≡ weights Purchases (held book.now) hour }
+    requires borne { lacks (held book.now) hour code ≡ false }
+    requires places { length shares.old ≡ book.now.heading.accounts }
+    requires room { RoomIn table.old code }
+    ensures { RowAdded table.old table.new code (amount-of book.now.heading.accounts (to-accounts (part (R.Sharing.parts rule.now) (held book.now) hour code))) }
 {
     share_out(
         rule,

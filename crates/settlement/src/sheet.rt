@@ -1,41 +1,33 @@
 // The sheet of an hour.
-ghost use mathlib.Core.Bool.{true, false, cond};
-ghost use mathlib.Core.Path.{_≡_};
-ghost use Prim.Native.Nat.{ℕ, _≤_};
-ghost use lib.ListN.{length};
-ghost use Rattle·std.specs.declared.option.Option.the-variants.{None, Some};
-ghost use Rattle·book.specs.Books.{held};
-ghost use Rattle·book.specs.Soundness.{sound-records};
-ghost use Rattle·codes.specs.declared.code.Basis.the-variants.{Purchases};
-ghost use Rattle·codes.specs.declared.code.Code.{Code};
-ghost use Rattle·valuation.specs.Valid.{Sound};
-ghost use Rattle·amounts.specs.Amounts.{lacking, lacks, weights};
-ghost use Rattle·settlement·specs.Days.{Filled, no-purchases, outcome, sheet-refusal};
-ghost use Rattle·settlement·specs.Grown.{Grown, Room, RoomIn, RowAdded};
-ghost use Rattle·settlement·specs.Sheets.{sheet};
+ghost use Rattle.std.specs.Prelude.{◌≡◌, ℕ, ◌≤◌, true, false, length, if◌then◌else◌, Some, None};
+ghost use Rattle.book.specs.Books.{held};
+ghost use Rattle.book.specs.Soundness.{sound-records};
+ghost use Rattle.codes.specs.declared.code.Basis.TheVariants.{Purchases};
+ghost use Rattle.codes.specs.declared.code.Code.{Code};
+ghost use Rattle.valuation.specs.Valid.{Sound};
+ghost use Rattle.amounts.specs.Amounts.{lacking, lacks, weights};
+ghost use Rattle.settlement.specs.Days.{Filled, no-purchases, outcome, sheet-refusal};
+ghost use Rattle.settlement.specs.Grown.{Grown, Room, RoomIn, RowAdded};
+ghost use Rattle.settlement.specs.Sheets.{sheet};
+
 use crate::own::add_own;
-use crate::shared::add_shared;
-use crate::shared::code_at;
-use crate::shared::is_lacking;
+use crate::shared::{add_shared, code_at, is_lacking};
 use amounts::purchases::put_purchases;
 use book::book::Book;
 use closing::prices::first_unpriced;
-use codes::code::Basis;
-use codes::code::CODE_COUNT;
-use codes::code::Code;
+use codes::code::{Basis, CODE_COUNT, Code};
 use codes::party::ACCOUNTS;
 use codes::table::Table;
-use faults::fault::Fault;
-use faults::fault::Place;
+use faults::fault::{Fault, Place};
 use faults::refusal::Refusal;
 use price_grid::grid::PriceGrid;
 use sharing::rule::Sharing;
 
 // Writes the weights of an hour, account 1 first.
 pub(crate) fn put_weights(book: &Book, hour: u8, purchases: &mut [u64])
-    requires sound { ⌜ Sound (held (now book)) ⌝ }
-    requires places { ⌜ length (now purchases) ≡ now book .heading .accounts ⌝ }
-    ensures { λ _. ⌜ now (purchases .exit) ≡ weights Purchases (held (now (book .entry))) hour ⌝ }
+    requires sound { Sound (held book.now) }
+    requires places { length purchases.old ≡ book.now.heading.accounts }
+    ensures { purchases.new ≡ weights Purchases (held book.now) hour }
 {
     put_purchases(book.positions.as_slice(), hour, purchases);
 }
@@ -51,13 +43,13 @@ fn add_code<'a, R: Sharing>(
     code: Code,
     table: &mut Table,
 )
-    requires sound { ⌜ Sound (held (now book)) ⌝ }
-    requires priced { ⌜ now (now prices .prices) ≡ held (now book) .prices ⌝ }
-    requires weighed { ⌜ now purchases ≡ weights Purchases (held (now book)) hour ⌝ }
-    requires borne { ⌜ lacks (held (now book)) hour code ≡ false ⌝ }
-    requires places { ⌜ length (now shares) ≡ now book .heading .accounts ⌝ }
-    requires room { ⌜ RoomIn (now table) code ⌝ }
-    ensures { λ _. ⌜ RowAdded (now (table .entry)) (now (table .exit)) code (sheet (R·Sharing .parts (now (rule .entry))) (held (now (book .entry))) hour code) ⌝ }
+    requires sound { Sound (held book.now) }
+    requires priced { prices.now.prices.now ≡ (held book.now).prices }
+    requires weighed { purchases.now ≡ weights Purchases (held book.now) hour }
+    requires borne { lacks (held book.now) hour code ≡ false }
+    requires places { length shares.old ≡ book.now.heading.accounts }
+    requires room { RoomIn table.old code }
+    ensures { RowAdded table.old table.new code (sheet (R.Sharing.parts rule.now) (held book.now) hour code) }
 {
     match code.row().basis {
         Basis::Own => add_own(book, prices, hour, code, table),
@@ -75,13 +67,13 @@ pub(crate) fn add_sheet<'a, R: Sharing>(
     shares: &mut [i64],
     table: &mut Table,
 )
-    requires sound { ⌜ Sound (held (now book)) ⌝ }
-    requires priced { ⌜ now (now prices .prices) ≡ held (now book) .prices ⌝ }
-    requires weighed { ⌜ now purchases ≡ weights Purchases (held (now book)) hour ⌝ }
-    requires borne { ⌜ lacking (held (now book)) hour ≡ false ⌝ }
-    requires places { ⌜ length (now shares) ≡ now book .heading .accounts ⌝ }
-    requires room { ⌜ Room (now table) ⌝ }
-    ensures { λ _. ⌜ Grown (now (table .entry)) (now (table .exit)) (sheet (R·Sharing .parts (now (rule .entry))) (held (now (book .entry))) hour) ⌝ }
+    requires sound { Sound (held book.now) }
+    requires priced { prices.now.prices.now ≡ (held book.now).prices }
+    requires weighed { purchases.now ≡ weights Purchases (held book.now) hour }
+    requires borne { lacking (held book.now) hour ≡ false }
+    requires places { length shares.old ≡ book.now.heading.accounts }
+    requires room { Room table.old }
+    ensures { Grown table.old table.new (sheet (R.Sharing.parts rule.now) (held book.now) hour) }
 {
     for i in 0..CODE_COUNT {
         add_code(
@@ -107,12 +99,12 @@ fn fill_with<'a, R: Sharing>(
     shares: &mut [i64],
     table: &mut Table,
 ) -> Result<(), Fault>
-    requires sound { ⌜ Sound (held (now book)) ⌝ }
-    requires priced { ⌜ now (now prices .prices) ≡ held (now book) .prices ⌝ }
-    requires weights { ⌜ length (now purchases) ≡ now book .heading .accounts ⌝ }
-    requires places { ⌜ length (now shares) ≡ now book .heading .accounts ⌝ }
-    ensures value { λ r. ⌜ r ≡ outcome (cond (lacking (held (now (book .entry))) hour) (Some (no-purchases hour)) None) ⌝ }
-    ensures after { λ _. ⌜ Filled (cond (lacking (held (now (book .entry))) hour) (Some (no-purchases hour)) None) (now (table .entry)) (now (table .exit)) (sheet (R·Sharing .parts (now (rule .entry))) (held (now (book .entry))) hour) ⌝ }
+    requires sound { Sound (held book.now) }
+    requires priced { prices.now.prices.now ≡ (held book.now).prices }
+    requires weights { length purchases.old ≡ book.now.heading.accounts }
+    requires places { length shares.old ≡ book.now.heading.accounts }
+    ensures value { result ≡ outcome (if lacking (held book.now) hour then Some (no-purchases hour) else None) }
+    ensures after { Filled (if lacking (held book.now) hour then Some (no-purchases hour) else None) table.old table.new (sheet (R.Sharing.parts rule.now) (held book.now) hour) }
 {
     put_weights(book, hour, purchases);
     if is_lacking(book, prices, hour, purchases) {
@@ -130,10 +122,10 @@ fn fill_at<'a, R: Sharing>(
     rule: &R,
     table: &mut Table,
 ) -> Result<(), Fault>
-    requires sound { ⌜ Sound (held (now book)) ⌝ }
-    requires priced { ⌜ now (now prices .prices) ≡ held (now book) .prices ⌝ }
-    ensures value { λ r. ⌜ r ≡ outcome (cond (lacking (held (now (book .entry))) hour) (Some (no-purchases hour)) None) ⌝ }
-    ensures after { λ _. ⌜ Filled (cond (lacking (held (now (book .entry))) hour) (Some (no-purchases hour)) None) (now (table .entry)) (now (table .exit)) (sheet (R·Sharing .parts (now (rule .entry))) (held (now (book .entry))) hour) ⌝ }
+    requires sound { Sound (held book.now) }
+    requires priced { prices.now.prices.now ≡ (held book.now).prices }
+    ensures value { result ≡ outcome (if lacking (held book.now) hour then Some (no-purchases hour) else None) }
+    ensures after { Filled (if lacking (held book.now) hour then Some (no-purchases hour) else None) table.old table.new (sheet (R.Sharing.parts rule.now) (held book.now) hour) }
 {
     let n = book.heading.accounts as usize;
     let mut purchases = [0u64; ACCOUNTS];
@@ -150,9 +142,9 @@ fn fill_at<'a, R: Sharing>(
 }
 
 fn fill_priced<R: Sharing>(book: &Book, hour: u8, rule: &R, table: &mut Table) -> Result<(), Fault>
-    requires { ⌜ Sound (held (now book)) ⌝ }
-    ensures value { λ r. ⌜ r ≡ outcome (cond (lacking (held (now (book .entry))) hour) (Some (no-purchases hour)) None) ⌝ }
-    ensures after { λ _. ⌜ Filled (cond (lacking (held (now (book .entry))) hour) (Some (no-purchases hour)) None) (now (table .entry)) (now (table .exit)) (sheet (R·Sharing .parts (now (rule .entry))) (held (now (book .entry))) hour) ⌝ }
+    requires { Sound (held book.now) }
+    ensures value { result ≡ outcome (if lacking (held book.now) hour then Some (no-purchases hour) else None) }
+    ensures after { Filled (if lacking (held book.now) hour then Some (no-purchases hour) else None) table.old table.new (sheet (R.Sharing.parts rule.now) (held book.now) hour) }
 {
     let prices = PriceGrid::of(book.prices.as_slice());
     fill_at(book, &prices, hour, rule, table)
@@ -165,9 +157,9 @@ pub fn fill_sheet<R: Sharing>(
     rule: &R,
     table: &mut Table,
 ) -> Result<(), Fault>
-    requires { ⌜ sound-records (held (now book)) ≡ true ⌝ }
-    ensures value { λ r. ⌜ r ≡ outcome (sheet-refusal (held (now (book .entry))) hour) ⌝ }
-    ensures after { λ _. ⌜ Filled (sheet-refusal (held (now (book .entry))) hour) (now (table .entry)) (now (table .exit)) (sheet (R·Sharing .parts (now (rule .entry))) (held (now (book .entry))) hour) ⌝ }
+    requires { sound-records (held book.now) ≡ true }
+    ensures value { result ≡ outcome (sheet-refusal (held book.now) hour) }
+    ensures after { Filled (sheet-refusal (held book.now) hour) table.old table.new (sheet (R.Sharing.parts rule.now) (held book.now) hour) }
 {
     if hour == 0 {
         return Err(Fault::new(Refusal::OutOfRange, Place::new(0, 0, hour)));

@@ -1,14 +1,9 @@
 -- The rules, with their numbers and meanings.
-use mathlib.Core.Bool.{cond}
-use mathlib.Core.List.{List}
-use Prim.Native.Nat.{ℕ}
-use lib.Dec.{eqb}
-use Rattle·std.specs.declared.option.Option.{Option}
-use Rattle·std.specs.declared.option.Option.the-variants.{None, Some}
-use Rattle·sharing·specs.LargestRemainder.{largest-remainder}
-use Rattle·sharing·specs.Running.{running}
-use Rattle·sharing·specs.declared.choice.Rule.{Rule}
-use Rattle·sharing·specs.declared.choice.Rule.the-variants.{LargestRemainder, Running}
+use Rattle.std.specs.Prelude.{ℕ, cond, List, Some, None, Option, ◌==◌}
+use Rattle.sharing.specs.LargestRemainder.{largest-remainder}
+use Rattle.sharing.specs.Running.{running}
+use Rattle.sharing.specs.declared.choice.Rule.{Rule}
+use Rattle.sharing.specs.declared.choice.Rule.TheVariants.{LargestRemainder, Running}
 
 abbrev pub rule-number : Rule → ℕ
 rule-number Running = 1
@@ -21,5 +16,5 @@ rule-parts LargestRemainder = largest-remainder
 -- the rule with a number
 abbrev pub rule-of : ℕ → Option Rule
 rule-of number =
-    cond (eqb number (rule-number Running)) (Some Running)
-    (cond (eqb number (rule-number LargestRemainder)) (Some LargestRemainder) None)
+    cond (number == rule-number Running) (Some Running)
+    (cond (number == rule-number LargestRemainder) (Some LargestRemainder) None)

@@ -1,11 +1,6 @@
 -- The largest-remainder rule.
-use mathlib.Core.Bool.{Bool, cond, _&&_, _||_}
-use mathlib.Core.List.{List, map}
-use Prim.Native.Nat.{ℕ, zero, suc, _+_, _-_, _*_, _/_, _%_}
-use lib.Dec.{eqb, ltb}
-use lib.ListN.{length, getD}
-use Rattle·std.specs.Iters.{counting}
-use Rattle·std.specs.shelf.Lists.{sum}
+use Rattle.std.specs.Prelude.{ℕ, zero, suc, ◌+◌, ◌-◌, ◌*◌, ◌/◌, ◌%◌, Bool, cond, ◌&&◌, ◌||◌, List, map, length, sum, ◌==◌, nat_lt, slice_index}
+use Rattle.std.specs.List.{range_with_len}
 
 -- the floor of each exact proportion, amount × weight / sum
 abbrev pub floors : ℕ → List ℕ → List ℕ
@@ -21,7 +16,7 @@ missing amount weights = amount - sum (floors amount weights)
 
 -- place j comes before place i: its remainder is larger, or it is as large and j is the earlier place
 abbrev pub before : List ℕ → ℕ → ℕ → Bool
-before rests i j = ltb (getD rests i 0) (getD rests j 0) || (eqb (getD rests i 0) (getD rests j 0) && ltb j i)
+before rests i j = nat_lt (slice_index rests i) (slice_index rests j) || (slice_index rests i == slice_index rests j && nat_lt j i)
 
 -- how many numbers below n pass a test
 abbrev pub count : ℕ → (ℕ → Bool) → ℕ
@@ -35,5 +30,5 @@ rank rests i = count (length rests) (before rests i)
 -- each place has its floor, and one mil more if it is among the first places, of which there are as many as mils are missing
 abbrev pub largest-remainder : ℕ → List ℕ → List ℕ
 largest-remainder amount weights =
-    map (λ i. getD (floors amount weights) i 0 + cond (ltb (rank (remainders amount weights) i) (missing amount weights)) 1 0)
-    (counting 0 (length weights))
+    map (λ i. slice_index (floors amount weights) i + cond (nat_lt (rank (remainders amount weights) i) (missing amount weights)) 1 0)
+    (range_with_len 0 (length weights))

@@ -5,3 +5,7 @@ pub mod Running
 pub mod LargestRemainder
 pub mod Signed
 pub mod Choice
+pub mod LargestFair
+pub mod Admitted
+pub mod Counts
+pub mod RunningFair

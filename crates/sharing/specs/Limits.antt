@@ -1,5 +1,5 @@
 -- The limits of every sharing rule, named once.
-use Prim.Native.Nat.{ℕ}
+use Rattle.std.specs.Prelude.{ℕ}
 
 -- the largest amount, in mils
 abbrev pub most-amount : ℕ

@@ -1,26 +1,19 @@
 -- What every rule shares, and how it refuses everything else.
-use mathlib.Core.Bool.{Bool, _&&_, _||_, cond}
-use mathlib.Core.List.{List}
-use Prim.Native.Nat.{ℕ}
-use lib.Dec.{eqb, leb, ltb}
-use lib.ListN.{length}
-use Rattle·std.specs.declared.result.Result.{Result}
-use Rattle·std.specs.declared.result.Result.the-variants.{Ok, Err}
-use Rattle·std.specs.shelf.Lists.{sum}
-use Rattle·faults.specs.Places.{plain}
-use Rattle·faults.specs.declared.fault.Fault.{Fault}
-use Rattle·faults.specs.declared.refusal.Refusal.the-variants.{NotShareable}
-use Rattle·sharing·specs.Limits.{most-amount, most-places, most-weight}
+use Rattle.std.specs.Prelude.{ℕ, Bool, cond, ◌&&◌, ◌||◌, List, length, Ok, Err, sum, Result, ◌==◌, nat_le, nat_lt}
+use Rattle.faults.specs.Places.{plain}
+use Rattle.faults.specs.declared.fault.Fault.{Fault}
+use Rattle.faults.specs.declared.refusal.Refusal.TheVariants.{NotShareable}
+use Rattle.sharing.specs.Limits.{most-amount, most-places, most-weight}
 
 -- there are weights and not too many of them, no limit is passed, and an amount other than 0 has somebody to bear it
 abbrev pub shareable : ℕ → List ℕ → Bool
 shareable amount weights =
-    (leb 1 (length weights) && (leb (length weights) most-places && leb amount most-amount))
-    && (leb (sum weights) most-weight && (ltb 0 (sum weights) || eqb amount 0))
+    (nat_le 1 (length weights) && (nat_le (length weights) most-places && nat_le amount most-amount))
+    && (nat_le (sum weights) most-weight && (nat_lt 0 (sum weights) || amount == 0))
 
 -- the same, with a list of so many places to write the parts into
 abbrev pub admitted : ℕ → List ℕ → ℕ → Bool
-admitted amount weights places = eqb places (length weights) && shareable amount weights
+admitted amount weights places = places == length weights && shareable amount weights
 
 -- the one refusal of a rule: it names no place
 abbrev pub not-shareable : Fault

@@ -1,11 +1,13 @@
 // The rules by their numbers.
-ghost use mathlib.Core.Path.{_≡_};
-ghost use Rattle·sharing·specs.Choice.{rule-number, rule-of, rule-parts};
+ghost use Rattle.std.specs.Prelude.{◌≡◌};
+ghost use Rattle.sharing.specs.Choice.{rule-number, rule-of, rule-parts};
+ghost use Rattle.sharing.specs.declared.choice.Rule.TheVariants.{LargestRemainder, Running};
+ghost use Rattle.sharing.specs.LargestFair.{largest-remainder-fair};
+ghost use Rattle.sharing.specs.RunningFair.{running-fair};
+
 use crate::largest_remainder::LargestRemainder;
-use crate::largest_remainder::LargestRemainderSharing;
 use crate::rule::Sharing;
 use crate::running::Running;
-use crate::running::RunningSharing;
 use faults::fault::Fault;
 
 // A rule that is chosen when the program runs.
@@ -17,7 +19,7 @@ pub enum Rule {
 
 impl Rule {
     pub fn number(self) -> u8
-        ensures { λ r. ⌜ r ≡ rule-number self ⌝ }
+        ensures { result ≡ rule-number self }
     {
         match self {
             Rule::Running => 1,
@@ -27,7 +29,7 @@ impl Rule {
 
     // The rule with this number, if there is one.
     pub fn from_number(number: u8) -> Option<Rule>
-        ensures { λ r. ⌜ r ≡ rule-of number ⌝ }
+        ensures { result ≡ rule-of number }
     {
         match number {
             1 => Some(Rule::Running),
@@ -37,8 +39,10 @@ impl Rule {
     }
 }
 
-pub impl Sharing for Rule as RuleSharing {
+impl Sharing for Rule {
     ghost parts = { rule-parts };
+
+    ghost fair = { elim [ Running ↦ running-fair | LargestRemainder ↦ largest-remainder-fair ] };
 
     fn share(&self, amount: u64, weights: &[u64], shares: &mut [u64]) -> Result<(), Fault> {
         match self {

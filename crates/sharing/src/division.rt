@@ -1,7 +1,6 @@
 // Proportions of an amount, with no product of the amount and a weight: that would not fit 64 bits.
-ghost use mathlib.Core.Path.{_≡_};
-ghost use Prim.Native.Nat.{_*_, _/_, _%_, _<_, _≤_};
-ghost use Rattle·sharing·specs.Limits.{most-amount, most-weight};
+ghost use Rattle.std.specs.Prelude.{◌≡◌, ◌*◌, ◌/◌, ◌%◌, ◌<◌, ◌≤◌};
+ghost use Rattle.sharing.specs.Limits.{most-amount, most-weight};
 
 #[derive(Clone, Copy)]
 pub struct Divided {
@@ -11,9 +10,9 @@ pub struct Divided {
 
 // Quotient and remainder of the same two numbers.
 pub fn divide(number: u64, divisor: u64) -> Divided
-    requires { ⌜ 0 < divisor ⌝ }
-    ensures quotient { λ r. ⌜ r .quotient ≡ number / divisor ⌝ }
-    ensures remainder { λ r. ⌜ r .remainder ≡ number % divisor ⌝ }
+    requires { 0 < divisor }
+    ensures quotient { result.quotient ≡ number / divisor }
+    ensures remainder { result.remainder ≡ number % divisor }
 {
     Divided {
         quotient: number / divisor,
@@ -37,11 +36,11 @@ pub struct Rate {
 
 impl Rate {
     pub fn new(amount: u64, total: u64) -> Rate
-        requires some { ⌜ 0 < total ⌝ }
-        requires small { ⌜ amount ≤ most-amount ⌝ }
-        requires light { ⌜ total ≤ most-weight ⌝ }
-        ensures amount { λ r. ⌜ r .amount ≡ amount ⌝ }
-        ensures total { λ r. ⌜ r .total ≡ total ⌝ }
+        requires some { 0 < total }
+        requires small { amount ≤ most-amount }
+        requires light { total ≤ most-weight }
+        ensures amount { result.amount ≡ amount }
+        ensures total { result.total ≡ total }
     {
         let divided = divide(amount, total);
         Rate {
@@ -54,9 +53,9 @@ impl Rate {
 
     // amount × weight over the sum of the weights.
     pub fn portion(&self, weight: u64) -> Divided
-        requires { ⌜ weight ≤ now self .total ⌝ }
-        ensures floor { λ r. ⌜ r .quotient ≡ now (self .entry) .amount * weight / now (self .entry) .total ⌝ }
-        ensures rest { λ r. ⌜ r .remainder ≡ now (self .entry) .amount * weight % now (self .entry) .total ⌝ }
+        requires { weight ≤ self.now.total }
+        ensures floor { result.quotient ≡ self.now.amount * weight / self.now.total }
+        ensures rest { result.remainder ≡ self.now.amount * weight % self.now.total }
     {
         let divided = divide(self.rest * weight, self.total);
         Divided {

@@ -1,29 +1,24 @@
 // The largest-remainder rule.
-ghost use mathlib.Core.Bool.{_&&_, _||_, cond};
-ghost use mathlib.Core.List.{map};
-ghost use mathlib.Core.Path.{_≡_};
-ghost use Prim.Native.Nat.{ℕ, _+_, _<_, _≤_};
-ghost use lib.Dec.{eqb, ltb};
-ghost use lib.ListN.{length, getD};
-ghost use Rattle·std.specs.Iters.{counting};
-ghost use Rattle·std.specs.shelf.Lists.{sum};
-ghost use Rattle·sharing·specs.LargestRemainder.{floors, largest-remainder, missing, rank, remainders};
-ghost use Rattle·sharing·specs.Limits.{most-amount};
+ghost use Rattle.std.specs.Prelude.{◌≡◌, ℕ, ◌+◌, ◌<◌, ◌≤◌, ◌&&◌, ◌||◌, ltb, map, length, if◌then◌else◌, sum, ◌==◌, nat_lt, slice_index};
+ghost use Rattle.std.specs.List.{range_with_len};
+ghost use Rattle.sharing.specs.LargestRemainder.{floors, largest-remainder, missing, rank, remainders};
+ghost use Rattle.sharing.specs.Limits.{most-amount};
+ghost use Rattle.sharing.specs.LargestFair.{largest-remainder-fair};
+
 use crate::division::Rate;
-use crate::limits::MOST_PLACES;
-use crate::limits::total_weight;
+use crate::limits::{MOST_PLACES, total_weight};
 use crate::rule::Sharing;
 use crate::zeros::clear;
 use faults::fault::Fault;
 
 // Writes the floors and the remainders, and answers how many mils the floors leave over.
 fn lay_floors(rate: &Rate, weights: &[u64], shares: &mut [u64], rests: &mut [u64]) -> u64
-    requires places { ⌜ length (now shares) ≡ length (now weights) ⌝ }
-    requires room { ⌜ length (now rests) ≡ length (now weights) ⌝ }
-    requires total { ⌜ now rate .total ≡ sum (now weights) ⌝ }
-    ensures floors { λ _. ⌜ now (shares .exit) ≡ floors (now (rate .entry) .amount) (now (weights .entry)) ⌝ }
-    ensures rests { λ _. ⌜ now (rests .exit) ≡ remainders (now (rate .entry) .amount) (now (weights .entry)) ⌝ }
-    ensures lacks { λ r. ⌜ r ≡ missing (now (rate .entry) .amount) (now (weights .entry)) ⌝ }
+    requires places { length shares.old ≡ length weights.now }
+    requires room { length rests.old ≡ length weights.now }
+    requires total { rate.now.total ≡ sum weights.now }
+    ensures floors { shares.new ≡ floors rate.now.amount weights.now }
+    ensures rests { rests.new ≡ remainders rate.now.amount weights.now }
+    ensures lacks { result ≡ missing rate.now.amount weights.now }
 {
     let mut lacking = rate.amount;
     for i in 0..weights.len() {
@@ -37,15 +32,15 @@ fn lay_floors(rate: &Rate, weights: &[u64], shares: &mut [u64], rests: &mut [u64
 
 // Does a remainder at place j come before another at place i?
 fn comes_before(rest: u64, j: usize, other: u64, i: usize) -> bool
-    ensures { λ r. ⌜ r ≡ (ltb other rest || (eqb other rest && ltb j i)) ⌝ }
+    ensures { result ≡ (nat_lt other rest || (other == rest && nat_lt j i)) }
 {
     other < rest || (other == rest && j < i)
 }
 
 // How many places come before place i.
 fn rank_of(rests: &[u64], i: usize) -> usize
-    requires { ⌜ i < length (now rests) ⌝ }
-    ensures { λ r. ⌜ r ≡ rank (now (rests .entry)) i ⌝ }
+    requires { i < length rests.now }
+    ensures { result ≡ rank rests.now i }
 {
     let mut n = 0;
     for j in 0..rests.len() {
@@ -58,9 +53,9 @@ fn rank_of(rests: &[u64], i: usize) -> usize
 
 // Adds one mil at each of the first places, as many as mils are lacking.
 fn give_missing(lacking: u64, rests: &[u64], shares: &mut [u64])
-    requires places { ⌜ length (now shares) ≡ length (now rests) ⌝ }
-    requires small { ⌜ ((k : ℕ) → k < length (now shares) → getD (now shares) k 0 ≤ most-amount) ⌝ }
-    ensures { λ _. ⌜ now (shares .exit) ≡ map (λ i. getD (now (shares .entry)) i 0 + cond (ltb (rank (now (rests .entry)) i) lacking) 1 0) (counting 0 (length (now (rests .entry)))) ⌝ }
+    requires places { length shares.old ≡ length rests.now }
+    requires small { (k : ℕ) → k < length shares.old → slice_index shares.old k ≤ most-amount }
+    ensures { shares.new ≡ map (λ i. slice_index shares.old i + (if ltb (rank rests.now i) lacking then 1 else 0)) (range_with_len 0 (length rests.now)) }
 {
     for i in 0..rests.len() {
         if (rank_of(rests, i) as u64) < lacking {
@@ -71,10 +66,10 @@ fn give_missing(lacking: u64, rests: &[u64], shares: &mut [u64])
 
 // The floors, and the missing mils to the places with the largest remainders.
 fn lay_largest(rate: &Rate, weights: &[u64], shares: &mut [u64], rests: &mut [u64])
-    requires places { ⌜ length (now shares) ≡ length (now weights) ⌝ }
-    requires room { ⌜ length (now rests) ≡ length (now weights) ⌝ }
-    requires total { ⌜ now rate .total ≡ sum (now weights) ⌝ }
-    ensures { λ _. ⌜ now (shares .exit) ≡ largest-remainder (now (rate .entry) .amount) (now (weights .entry)) ⌝ }
+    requires places { length shares.old ≡ length weights.now }
+    requires room { length rests.old ≡ length weights.now }
+    requires total { rate.now.total ≡ sum weights.now }
+    ensures { shares.new ≡ largest-remainder rate.now.amount weights.now }
 {
     let lacking = lay_floors(rate, weights, shares, rests);
     give_missing(lacking, rests, shares);
@@ -85,8 +80,10 @@ fn lay_largest(rate: &Rate, weights: &[u64], shares: &mut [u64], rests: &mut [u6
 #[derive(Clone, Copy)]
 pub struct LargestRemainder;
 
-pub impl Sharing for LargestRemainder as LargestRemainderSharing {
+impl Sharing for LargestRemainder {
     ghost parts = { λ _. largest-remainder };
+
+    ghost fair = { λ s. largest-remainder-fair };
 
     fn share(&self, amount: u64, weights: &[u64], shares: &mut [u64]) -> Result<(), Fault> {
         let places = shares.len();

@@ -1,8 +1,8 @@
 // The running rule.
-ghost use mathlib.Core.Path.{_≡_};
-ghost use lib.ListN.{length};
-ghost use Rattle·std.specs.shelf.Lists.{sum};
-ghost use Rattle·sharing·specs.Running.{running};
+ghost use Rattle.std.specs.Prelude.{◌≡◌, length, sum};
+ghost use Rattle.sharing.specs.Running.{running};
+ghost use Rattle.sharing.specs.RunningFair.{running-fair};
+
 use crate::division::Rate;
 use crate::limits::total_weight;
 use crate::rule::Sharing;
@@ -11,9 +11,9 @@ use faults::fault::Fault;
 
 // Writes for each place what is due up to it, less what was due before.
 fn lay_running(rate: &Rate, weights: &[u64], shares: &mut [u64])
-    requires places { ⌜ length (now shares) ≡ length (now weights) ⌝ }
-    requires total { ⌜ now rate .total ≡ sum (now weights) ⌝ }
-    ensures { λ _. ⌜ now (shares .exit) ≡ running (now (rate .entry) .amount) (now (weights .entry)) ⌝ }
+    requires places { length shares.old ≡ length weights.now }
+    requires total { rate.now.total ≡ sum weights.now }
+    ensures { shares.new ≡ running rate.now.amount weights.now }
 {
     let mut reached = 0;
     let mut before = 0;
@@ -30,8 +30,10 @@ fn lay_running(rate: &Rate, weights: &[u64], shares: &mut [u64])
 #[derive(Clone, Copy)]
 pub struct Running;
 
-pub impl Sharing for Running as RunningSharing {
+impl Sharing for Running {
     ghost parts = { λ _. running };
+
+    ghost fair = { λ s. running-fair };
 
     fn share(&self, amount: u64, weights: &[u64], shares: &mut [u64]) -> Result<(), Fault> {
         let total = total_weight(amount, weights, shares.len())?;

@@ -1,13 +1,9 @@
 // Sharing a signed amount.
-ghost use mathlib.Core.List.{map};
-ghost use mathlib.Core.Path.{_≡_};
-ghost use Prim.Native.Nat.{ℕ, _<_, _≤_};
-ghost use lib.IntN.{natAbs};
-ghost use lib.ListN.{length, getD};
-ghost use Rattle·std.specs.Vec.{made};
-ghost use Rattle·sharing·specs.Limits.{most-amount};
-ghost use Rattle·sharing·specs.Shareable.{share-answer};
-ghost use Rattle·sharing·specs.Signed.{signed-leaves, sumℤ, with-sign-of};
+ghost use Rattle.std.specs.Prelude.{◌≡◌, ℕ, ◌<◌, ◌≤◌, map, length, OnOk, slice_index, unsigned_abs};
+ghost use Rattle.sharing.specs.Limits.{most-amount};
+ghost use Rattle.sharing.specs.Shareable.{share-answer};
+ghost use Rattle.sharing.specs.Signed.{signed-leaves, sumℤ, with-sign-of};
+
 use crate::limits::MOST_PLACES;
 use crate::rule::Sharing;
 use faults::fault::Fault;
@@ -15,8 +11,8 @@ use faults::refusal::Refusal;
 
 // A part with the sign of the amount.
 fn with_sign(amount: i64, part: u64) -> i64
-    requires { ⌜ part ≤ most-amount ⌝ }
-    ensures { λ r. ⌜ r ≡ with-sign-of amount part ⌝ }
+    requires { part ≤ most-amount }
+    ensures { result ≡ with-sign-of amount part }
 {
     let magnitude = part as i64;
     if amount < 0 { -magnitude } else { magnitude }
@@ -24,9 +20,9 @@ fn with_sign(amount: i64, part: u64) -> i64
 
 // Writes each part with the sign of the amount.
 fn lay_signed(amount: i64, parts: &[u64], shares: &mut [i64])
-    requires places { ⌜ length (now shares) ≡ length (now parts) ⌝ }
-    requires small { ⌜ ((k : ℕ) → k < length (now parts) → getD (now parts) k 0 ≤ most-amount) ⌝ }
-    ensures { λ _. ⌜ now (shares .exit) ≡ map (with-sign-of amount) (now (parts .entry)) ⌝ }
+    requires places { length shares.old ≡ length parts.now }
+    requires small { (k : ℕ) → k < length parts.now → slice_index parts.now k ≤ most-amount }
+    ensures { shares.new ≡ map (with-sign-of amount) parts.now }
 {
     for i in 0..parts.len() {
         shares[i] = with_sign(amount, parts[i]);
@@ -41,9 +37,9 @@ fn share_by_magnitude<R: Sharing>(
     magnitudes: &mut [u64],
     shares: &mut [i64],
 ) -> Result<(), Fault>
-    requires { ⌜ length (now magnitudes) ≡ length (now shares) ⌝ }
-    ensures answer { λ r. ⌜ r ≡ share-answer (natAbs amount) (now (weights .entry)) (length (now (shares .entry))) ⌝ }
-    ensures after { λ _. ⌜ now (shares .exit) ≡ signed-leaves (R·Sharing .parts (now (rule .entry))) amount (now (weights .entry)) (now (shares .entry)) ⌝ }
+    requires { length magnitudes.old ≡ length shares.old }
+    ensures answer { result ≡ share-answer (unsigned_abs amount) weights.now (length shares.old) }
+    ensures after { shares.new ≡ signed-leaves (R.Sharing.parts rule.now) amount weights.now shares.old }
 {
     match rule.share(amount.unsigned_abs(), weights, magnitudes) {
         Ok(()) => {
@@ -61,9 +57,9 @@ pub fn share_signed<R: Sharing>(
     weights: &[u64],
     shares: &mut [i64],
 ) -> Result<(), Fault>
-    ensures answer { λ r. ⌜ r ≡ share-answer (natAbs amount) (now (weights .entry)) (length (now (shares .entry))) ⌝ }
-    ensures after { λ _. ⌜ now (shares .exit) ≡ signed-leaves (R·Sharing .parts (now (rule .entry))) amount (now (weights .entry)) (now (shares .entry)) ⌝ }
-    ensures whole { λ r. ⌜ made r (λ _. sumℤ (now (shares .exit)) ≡ amount) ⌝ }
+    ensures answer { result ≡ share-answer (unsigned_abs amount) weights.now (length shares.old) }
+    ensures after { shares.new ≡ signed-leaves (R.Sharing.parts rule.now) amount weights.now shares.old }
+    ensures whole { OnOk result (sumℤ shares.new ≡ amount) }
 {
     let places = shares.len();
     if places > MOST_PLACES {

@@ -1,11 +1,9 @@
 // Parts of nothing.
-ghost use mathlib.Core.Path.{_≡_};
-ghost use Prim.Native.Nat.{ℕ, _<_};
-ghost use lib.ListN.{length, getD};
+ghost use Rattle.std.specs.Prelude.{◌≡◌, ℕ, ◌<◌, length, slice_index};
 
 // Writes 0 everywhere.
 pub fn clear(shares: &mut [u64])
-    ensures { λ _. ⌜ ((k : ℕ) → k < length (now (shares .entry)) → getD (now (shares .exit)) k 0 ≡ 0) ⌝ }
+    ensures { (k : ℕ) → k < length shares.old → slice_index shares.new k ≡ 0 }
 {
     for share in shares.iter_mut() {
         *share = 0;

@@ -1,22 +1,18 @@
 -- The lines of amounts.
-use mathlib.Core.List.{List, [], _∷_, _++_}
-use Prim.Native.Nat.{ℕ, _+_}
-use lib.IntN.{ℤ}
-use Rattle·std.specs.declared.option.Option.{Option}
-use Rattle·std.specs.declared.option.Option.the-variants.{Some, None}
-use Rattle·codes.specs.Codes.{code-of, row-of}
-use Rattle·codes.specs.declared.code.Code.{Code}
-use Rattle·ledger.specs.declared.note.Note.{Note}
-use Rattle·text.specs.Lines.{word}
-use Rattle·statement·specs.Sides.{side-and-magnitude, side-letter}
-use Rattle·statement·specs.declared.side.Side.{Side}
+use Rattle.std.specs.Prelude.{ℕ, ◌+◌, List, [], ◌∷◌, ◌++◌, ℤ, Some, None, Option}
+use Rattle.codes.specs.Codes.{code_of, row_of}
+use Rattle.codes.specs.declared.code.Code.{Code}
+use Rattle.ledger.specs.declared.note.Note.{Note}
+use Rattle.text.specs.Lines.{word}
+use Rattle.statement.specs.Sides.{side-and-magnitude, side-letter}
+use Rattle.statement.specs.declared.side.Side.{Side}
 
 -- the letter and the digit of a code, as A1
 abbrev pub code-name : Code → List ℕ
-code-name code = row-of code .letter ∷ (48 + row-of code .digit) ∷ []
+code-name code = (row_of code).letter ∷ (48 + (row_of code).digit) ∷ []
 
 abbrev pub sided-line : Code → ℕ → Side × ℕ → List ℕ
-sided-line code party amount = code-name code ++ (word party ++ ((32 ∷ side-letter (amount .0) ∷ []) ++ (word (amount .1) ++ (10 ∷ []))))
+sided-line code party amount = code-name code ++ (word party ++ ((32 ∷ side-letter amount.0 ∷ []) ++ (word amount.1 ++ (10 ∷ []))))
 
 -- code, party, side and magnitude, as A1 1 P 150000000, and the end of the line
 unfoldable pub amount-line : Code → ℕ → ℤ → List ℕ
@@ -29,4 +25,4 @@ line-under (Some code) party amount = amount-line code party amount
 
 -- the line of a note; no sound note is without a code
 abbrev pub note-line : Note → List ℕ
-note-line n = line-under (code-of (n .code)) (n .party) (n .amount)
+note-line n = line-under (code_of n.code) n.party n.amount

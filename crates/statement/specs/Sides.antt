@@ -1,8 +1,7 @@
 -- The side and the magnitude of an amount.
-use Prim.Native.Nat.{ℕ, suc}
-use lib.IntN.{ℤ, pos, negsuc}
-use Rattle·statement·specs.declared.side.Side.{Side}
-use Rattle·statement·specs.declared.side.Side.the-variants.{Payment, Charge}
+use Rattle.std.specs.Prelude.{ℕ, suc, ℤ, pos, negsuc}
+use Rattle.statement.specs.declared.side.Side.{Side}
+use Rattle.statement.specs.declared.side.Side.TheVariants.{Payment, Charge}
 
 -- letters are bytes: 80 is P, 67 is C
 abbrev pub side-letter : Side → ℕ

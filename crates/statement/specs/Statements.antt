@@ -1,22 +1,15 @@
 -- The text of an issue's statement.
-use mathlib.Core.Bool.{cond}
-use mathlib.Core.List.{List, [], _∷_, _++_}
-use Prim.Native.Nat.{ℕ, _+_, _*_, _/_, _%_}
-use lib.Chars.{codes}
-use lib.Dec.{eqb, ltb}
-use lib.ListN.{length}
-use Rattle·std.specs.Joined.{joined}
-use Rattle·std.specs.Options.{okOr}
-use Rattle·std.specs.declared.result.Result.{Result}
-use Rattle·std.specs.declared.result.Result.the-variants.{Err}
-use Rattle·dayfile.specs.declared.heading.Heading.{Heading}
-use Rattle·faults.specs.Places.{plain}
-use Rattle·faults.specs.declared.fault.Fault.{Fault}
-use Rattle·faults.specs.declared.refusal.Refusal.the-variants.{BufferTooShort, OutOfRange}
-use Rattle·ledger.specs.declared.note.Note.{Note}
-use Rattle·text.specs.Lines.{line}
-use Rattle·text.specs.Written.{left-if-fits, length-if-fits}
-use Rattle·statement·specs.Lines.{note-line}
+use Rattle.std.specs.Prelude.{ℕ, ◌+◌, ◌*◌, ◌/◌, ◌%◌, cond, List, [], ◌∷◌, ◌++◌, length, Err, codes, Result, ◌==◌, nat_lt}
+use Rattle.std.specs.List.{flat_map}
+use Rattle.std.specs.Option.{ok_or}
+use Rattle.dayfile.specs.declared.heading.Heading.{Heading}
+use Rattle.faults.specs.Places.{plain}
+use Rattle.faults.specs.declared.fault.Fault.{Fault}
+use Rattle.faults.specs.declared.refusal.Refusal.TheVariants.{BufferTooShort, OutOfRange}
+use Rattle.ledger.specs.declared.note.Note.{Note}
+use Rattle.text.specs.Lines.{line}
+use Rattle.text.specs.Written.{left-if-fits, length-if-fits}
+use Rattle.statement.specs.Lines.{note-line}
 
 -- a decimal digit of a number, by its unit: 1, 10, 100 or 1,000
 abbrev pub digit-of : ℕ → ℕ → ℕ
@@ -25,34 +18,34 @@ digit-of n unit = 48 + n / unit % 10
 -- DAY and the date: the year in four digits, month and day in two, parted by hyphens (byte 45)
 abbrev pub day-name : Heading → List ℕ
 day-name heading =
-    codes "DAY " ++ (digit-of (heading .year) 1000 ∷ digit-of (heading .year) 100 ∷ digit-of (heading .year) 10 ∷ digit-of (heading .year) 1
-    ∷ 45 ∷ digit-of (heading .month) 10 ∷ digit-of (heading .month) 1 ∷ 45 ∷ digit-of (heading .day) 10 ∷ digit-of (heading .day) 1 ∷ [])
+    codes "DAY " ++ (digit-of heading.year 1000 ∷ digit-of heading.year 100 ∷ digit-of heading.year 10 ∷ digit-of heading.year 1
+    ∷ 45 ∷ digit-of heading.month 10 ∷ digit-of heading.month 1 ∷ 45 ∷ digit-of heading.day 10 ∷ digit-of heading.day 1 ∷ [])
 
 -- the notes of an issue, in the order of the ledger
 abbrev pub of-issue : ℕ → List Note → List Note
 of-issue number [] = []
-of-issue number (n ∷ ns) = cond (eqb (n .issue) number) (n ∷ of-issue number ns) (of-issue number ns)
+of-issue number (n ∷ ns) = cond (n.issue == number) (n ∷ of-issue number ns) (of-issue number ns)
 
 -- DAY, date, hours and issue
 unfoldable pub first-line : Heading → ℕ → List ℕ
-first-line heading number = line (day-name heading) (heading .hours ∷ number ∷ [])
+first-line heading number = line (day-name heading) (heading.hours ∷ number ∷ [])
 
 -- END and how many notes there are
-unfoldable pub last-line : ℕ → List ℕ
-last-line count = line (codes "END") (count ∷ [])
+unfoldable pub last_line : ℕ → List ℕ
+last_line count = line (codes "END") (count ∷ [])
 
 -- the first line, a line for each note of the issue, and the last line
 unfoldable pub statement-text : Heading → List Note → ℕ → List ℕ
-statement-text heading notes number = first-line heading number ++ (joined note-line (of-issue number notes) ++ last-line (length (of-issue number notes)))
+statement-text heading notes number = first-line heading number ++ (flat_map note-line (of-issue number notes) ++ last_line (length (of-issue number notes)))
 
 -- what a statement answers: the length of the text, or that the issue was not made or the buffer is too short
 abbrev pub statement-answer : Heading → List Note → ℕ → ℕ → List ℕ → Result ℕ Fault
 statement-answer heading notes issues number buffer =
-    cond (ltb number issues) (okOr (length-if-fits (statement-text heading notes number) buffer) (plain BufferTooShort)) (Err (plain OutOfRange))
+    cond (nat_lt number issues) (ok_or (length-if-fits (statement-text heading notes number) buffer) (plain BufferTooShort)) (Err (plain OutOfRange))
 
 -- and what it leaves in the buffer: bytes beyond the text stay
 abbrev pub statement-leaves : Heading → List Note → ℕ → ℕ → List ℕ → List ℕ
-statement-leaves heading notes issues number buffer = cond (ltb number issues) (left-if-fits (statement-text heading notes number) buffer) buffer
+statement-leaves heading notes issues number buffer = cond (nat_lt number issues) (left-if-fits (statement-text heading notes number) buffer) buffer
 
 -- room that a statement always fits, by how many notes the ledger has: the first line has at most 22 bytes, the line of
 -- a note 27, the last line 13

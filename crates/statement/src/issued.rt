@@ -1,34 +1,28 @@
 // The statement of an issue.
-ghost use mathlib.Core.Bool.{true};
-ghost use mathlib.Core.Path.{_≡_};
-ghost use Prim.Native.Nat.{_+_, _*_, _<_, _≤_};
-ghost use lib.ListN.{length, take};
-ghost use Rattle·std.specs.Joined.{joined};
-ghost use Rattle·std.specs.Options.{isSome};
-ghost use Rattle·std.specs.Results.{isOk};
-ghost use Rattle·ledger.specs.Notes.{sound-notes};
-ghost use Rattle·statement·specs.Statements.{day-name, digit-of, first-line, last-line, of-issue, statement-answer, statement-leaves, statement-room, statement-text};
-ghost use Rattle·statement·specs.Steps.{line-in, one-in};
-ghost use Rattle·text.specs.Written.{Wrote, left-if-fits, length-if-fits};
-use crate::line::note_line_length;
-use crate::line::put_note_line;
+ghost use Rattle.std.specs.Prelude.{◌≡◌, ◌+◌, ◌*◌, ◌<◌, ◌≤◌, true, length, take, is_some, is_ok};
+ghost use Rattle.std.specs.List.{flat_map};
+ghost use Rattle.ledger.specs.Notes.{sound-notes};
+ghost use Rattle.statement.specs.Statements.{day-name, digit-of, first-line, last_line, of-issue, statement-answer, statement-leaves, statement-room, statement-text};
+ghost use Rattle.statement.specs.Steps.{line-in, one_in};
+ghost use Rattle.text.specs.Written.{Wrote, left-if-fits, length-if-fits};
+
+use crate::line::{note_line_length, put_note_line};
 use dayfile::heading::Heading;
 use faults::fault::Fault;
 use faults::refusal::Refusal;
 use ledger::note::Note;
-use text::write::put_line;
-use text::write::words_length;
+use text::write::{put_line, words_length};
 
 fn digit(n: u16, unit: u16) -> u8
-    requires { ⌜ 0 < unit ⌝ }
-    ensures { λ r. ⌜ r ≡ digit-of n unit ⌝ }
+    requires { 0 < unit }
+    ensures { result ≡ digit-of n unit }
 {
     b'0' + (n / unit % 10) as u8
 }
 
 // DAY and the date.
 fn day_name(heading: &Heading) -> [u8; 14]
-    ensures { λ r. ⌜ r ≡ day-name (now (heading .entry)) ⌝ }
+    ensures { result ≡ day-name heading.now }
 {
     let year = heading.year;
     let month = u16::from(heading.month);
@@ -53,15 +47,15 @@ fn day_name(heading: &Heading) -> [u8; 14]
 
 // 1 for a note of the issue.
 fn one_in(note: &Note, issue: u8) -> usize
-    ensures value { λ r. ⌜ r ≡ one-in issue (now (note .entry)) ⌝ }
-    ensures bound { λ r. ⌜ r ≤ 1 ⌝ }
+    ensures value { result ≡ one_in issue note.now }
+    ensures bound { result ≤ 1 }
 {
     if note.issue == issue { 1 } else { 0 }
 }
 
 // How many notes the issue has.
 fn count_in(notes: &[Note], issue: u8) -> usize
-    ensures { λ r. ⌜ r ≡ length (of-issue issue (now (notes .entry))) ⌝ }
+    ensures { result ≡ length (of-issue issue notes.now) }
 {
     let mut count = 0;
     for note in notes {
@@ -71,8 +65,8 @@ fn count_in(notes: &[Note], issue: u8) -> usize
 }
 
 fn length_in(note: &Note, issue: u8) -> usize
-    ensures value { λ r. ⌜ r ≡ length (line-in issue (now (note .entry))) ⌝ }
-    ensures bound { λ r. ⌜ r ≤ 47 ⌝ }
+    ensures value { result ≡ length (line-in issue note.now) }
+    ensures bound { result ≤ 47 }
 {
     if note.issue == issue {
         note_line_length(note)
@@ -83,8 +77,8 @@ fn length_in(note: &Note, issue: u8) -> usize
 
 // The note's line, if it is of the issue.
 fn put_in(buffer: &mut [u8], at: usize, note: &Note, issue: u8) -> usize
-    requires { ⌜ at + length (line-in issue (now note)) ≤ length (now buffer) ⌝ }
-    ensures { λ r. ⌜ Wrote (now (buffer .entry)) at (line-in issue (now (note .entry))) (now (buffer .exit)) r ⌝ }
+    requires { at + length (line-in issue note.now) ≤ length buffer.old }
+    ensures { Wrote buffer.old at (line-in issue note.now) buffer.new result }
 {
     if note.issue == issue {
         put_note_line(buffer, at, note)
@@ -94,9 +88,9 @@ fn put_in(buffer: &mut [u8], at: usize, note: &Note, issue: u8) -> usize
 }
 
 fn lines_length(notes: &[Note], issue: u8) -> usize
-    requires { ⌜ length (now notes) ≤ 100000000 ⌝ }
-    ensures value { λ r. ⌜ r ≡ length (joined (line-in issue) (now (notes .entry))) ⌝ }
-    ensures bound { λ r. ⌜ r ≤ 47 * length (now (notes .entry)) ⌝ }
+    requires { length notes.now ≤ 100000000 }
+    ensures value { result ≡ length (flat_map (line-in issue) notes.now) }
+    ensures bound { result ≤ 47 * length notes.now }
 {
     let mut total = 0;
     for note in notes {
@@ -106,8 +100,8 @@ fn lines_length(notes: &[Note], issue: u8) -> usize
 }
 
 fn put_lines(buffer: &mut [u8], at: usize, notes: &[Note], issue: u8) -> usize
-    requires { ⌜ at + length (joined (line-in issue) (now notes)) ≤ length (now buffer) ⌝ }
-    ensures { λ r. ⌜ Wrote (now (buffer .entry)) at (joined (line-in issue) (now (notes .entry))) (now (buffer .exit)) r ⌝ }
+    requires { at + length (flat_map (line-in issue) notes.now) ≤ length buffer.old }
+    ensures { Wrote buffer.old at (flat_map (line-in issue) notes.now) buffer.new result }
 {
     let mut end = at;
     for note in notes {
@@ -117,15 +111,15 @@ fn put_lines(buffer: &mut [u8], at: usize, notes: &[Note], issue: u8) -> usize
 }
 
 fn first_line_length(heading: &Heading, issue: u8) -> usize
-    ensures value { λ r. ⌜ r ≡ length (first-line (now (heading .entry)) issue) ⌝ }
-    ensures bound { λ r. ⌜ r ≤ 57 ⌝ }
+    ensures value { result ≡ length (first-line heading.now issue) }
+    ensures bound { result ≤ 57 }
 {
     14 + words_length(&[u64::from(heading.hours), u64::from(issue)]) + 1
 }
 
 fn put_first_line(buffer: &mut [u8], heading: &Heading, issue: u8) -> usize
-    requires { ⌜ length (first-line (now heading) issue) ≤ length (now buffer) ⌝ }
-    ensures { λ r. ⌜ Wrote (now (buffer .entry)) 0 (first-line (now (heading .entry)) issue) (now (buffer .exit)) r ⌝ }
+    requires { length (first-line heading.now issue) ≤ length buffer.old }
+    ensures { Wrote buffer.old 0 (first-line heading.now issue) buffer.new result }
 {
     let name = day_name(heading);
     put_line(
@@ -137,23 +131,23 @@ fn put_first_line(buffer: &mut [u8], heading: &Heading, issue: u8) -> usize
 }
 
 fn last_line_length(count: usize) -> usize
-    ensures value { λ r. ⌜ r ≡ length (last-line count) ⌝ }
-    ensures bound { λ r. ⌜ r ≤ 25 ⌝ }
+    ensures value { result ≡ length (last_line count) }
+    ensures bound { result ≤ 25 }
 {
     3 + words_length(&[count as u64]) + 1
 }
 
 fn put_last_line(buffer: &mut [u8], at: usize, count: usize) -> usize
-    requires { ⌜ at + length (last-line count) ≤ length (now buffer) ⌝ }
-    ensures { λ r. ⌜ Wrote (now (buffer .entry)) at (last-line count) (now (buffer .exit)) r ⌝ }
+    requires { at + length (last_line count) ≤ length buffer.old }
+    ensures { Wrote buffer.old at (last_line count) buffer.new result }
 {
     put_line(buffer, at, b"END", &[count as u64])
 }
 
 // How long the whole text is.
 fn text_length(heading: &Heading, notes: &[Note], issue: u8) -> usize
-    requires { ⌜ length (now notes) ≤ 100000000 ⌝ }
-    ensures { λ r. ⌜ r ≡ length (statement-text (now (heading .entry)) (now (notes .entry)) issue) ⌝ }
+    requires { length notes.now ≤ 100000000 }
+    ensures { result ≡ length (statement-text heading.now notes.now issue) }
 {
     first_line_length(heading, issue)
         + lines_length(notes, issue)
@@ -162,8 +156,8 @@ fn text_length(heading: &Heading, notes: &[Note], issue: u8) -> usize
 
 // The whole text, for which there is room.
 fn put_text(buffer: &mut [u8], heading: &Heading, notes: &[Note], issue: u8) -> usize
-    requires { ⌜ length (statement-text (now heading) (now notes) issue) ≤ length (now buffer) ⌝ }
-    ensures { λ r. ⌜ Wrote (now (buffer .entry)) 0 (statement-text (now (heading .entry)) (now (notes .entry)) issue) (now (buffer .exit)) r ⌝ }
+    requires { length (statement-text heading.now notes.now issue) ≤ length buffer.old }
+    ensures { Wrote buffer.old 0 (statement-text heading.now notes.now issue) buffer.new result }
 {
     let headed = put_first_line(buffer, heading, issue);
     let listed = put_lines(buffer, headed, notes, issue);
@@ -172,9 +166,9 @@ fn put_text(buffer: &mut [u8], heading: &Heading, notes: &[Note], issue: u8) -> 
 
 // The whole text where the buffer has room for it; else nothing is written.
 fn put_statement(buffer: &mut [u8], heading: &Heading, notes: &[Note], issue: u8) -> Option<usize>
-    requires { ⌜ length (now notes) ≤ 100000000 ⌝ }
-    ensures answer { λ r. ⌜ r ≡ length-if-fits (statement-text (now (heading .entry)) (now (notes .entry)) issue) (now (buffer .entry)) ⌝ }
-    ensures after { λ _. ⌜ now (buffer .exit) ≡ left-if-fits (statement-text (now (heading .entry)) (now (notes .entry)) issue) (now (buffer .entry)) ⌝ }
+    requires { length notes.now ≤ 100000000 }
+    ensures answer { result ≡ length-if-fits (statement-text heading.now notes.now issue) buffer.old }
+    ensures after { buffer.new ≡ left-if-fits (statement-text heading.now notes.now issue) buffer.old }
 {
     if text_length(heading, notes, issue) > buffer.len() {
         return None;
@@ -191,10 +185,10 @@ fn put_from_ledger(
     issues: u8,
     issue: u8,
 ) -> Option<usize>
-    requires { ⌜ sound-notes (now ledger) notes issues ≡ true ⌝ }
-    ensures answer { λ r. ⌜ r ≡ length-if-fits (statement-text (now (heading .entry)) (take notes (now (ledger .entry))) issue) (now (buffer .entry)) ⌝ }
-    ensures after { λ _. ⌜ now (buffer .exit) ≡ left-if-fits (statement-text (now (heading .entry)) (take notes (now (ledger .entry))) issue) (now (buffer .entry)) ⌝ }
-    ensures fits { λ r. ⌜ (statement-room notes ≤ length (now (buffer .entry)) → isSome r ≡ true) ⌝ }
+    requires { sound-notes ledger.now notes issues ≡ true }
+    ensures answer { result ≡ length-if-fits (statement-text heading.now (take notes ledger.now) issue) buffer.old }
+    ensures after { buffer.new ≡ left-if-fits (statement-text heading.now (take notes ledger.now) issue) buffer.old }
+    ensures fits { statement-room notes ≤ length buffer.old → is_some result ≡ true }
 {
     put_statement(buffer, heading, &ledger[0..notes], issue)
 }
@@ -208,10 +202,10 @@ pub fn statement(
     issue: u8,
     buffer: &mut [u8],
 ) -> Result<usize, Fault>
-    requires { ⌜ sound-notes (now ledger) notes issues ≡ true ⌝ }
-    ensures answer { λ r. ⌜ r ≡ statement-answer (now (heading .entry)) (take notes (now (ledger .entry))) issues issue (now (buffer .entry)) ⌝ }
-    ensures after { λ _. ⌜ now (buffer .exit) ≡ statement-leaves (now (heading .entry)) (take notes (now (ledger .entry))) issues issue (now (buffer .entry)) ⌝ }
-    ensures fits { λ r. ⌜ (issue < issues → statement-room notes ≤ length (now (buffer .entry)) → isOk r ≡ true) ⌝ }
+    requires { sound-notes ledger.now notes issues ≡ true }
+    ensures answer { result ≡ statement-answer heading.now (take notes ledger.now) issues issue buffer.old }
+    ensures after { buffer.new ≡ statement-leaves heading.now (take notes ledger.now) issues issue buffer.old }
+    ensures fits { issue < issues → statement-room notes ≤ length buffer.old → is_ok result ≡ true }
 {
     if issue < issues {
         put_from_ledger(buffer, heading, ledger, notes, issues, issue).ok_or(Fault::plain(

@@ -1,18 +1,15 @@
 -- Lines of text: fields are parted by one space, and byte 10 ends a line.
-use mathlib.Core.List.{List, [], _∷_, _++_}
-use Prim.Native.Nat.{ℕ}
-use lib.Chars.{codes}
-use Rattle·std.specs.Joined.{joined}
-use Rattle·std.specs.Written.{decimal}
-use Rattle·faults.specs.Numbers.{layer-number, refusal-layer, refusal-number}
-use Rattle·faults.specs.declared.fault.Fault.{Fault}
+use Rattle.std.specs.Prelude.{ℕ, List, [], ◌∷◌, ◌++◌, codes, decimal}
+use Rattle.std.specs.List.{flat_map}
+use Rattle.faults.specs.Numbers.{layer-number, refusal-layer, refusal-number}
+use Rattle.faults.specs.declared.fault.Fault.{Fault}
 
 -- a space and a number in decimal digits
 abbrev pub word : ℕ → List ℕ
 word n = 32 ∷ decimal n
 
 abbrev pub words : List ℕ → List ℕ
-words numbers = joined word numbers
+words numbers = flat_map word numbers
 
 abbrev pub line : List ℕ → List ℕ → List ℕ
 line name numbers = name ++ (words numbers ++ (10 ∷ []))
@@ -21,7 +18,7 @@ line name numbers = name ++ (words numbers ++ (10 ∷ []))
 abbrev pub refused-text : Fault → List ℕ
 refused-text f =
     line (codes "REFUSED")
-    (refusal-number (f .refusal) ∷ layer-number (refusal-layer (f .refusal)) ∷ f .place .offset ∷ f .place .account ∷ f .place .node ∷ f .place .hour ∷ [])
+    (refusal-number f.refusal ∷ layer-number (refusal-layer f.refusal) ∷ f.place.offset ∷ f.place.account ∷ f.place.node ∷ f.place.hour ∷ [])
 
 -- room that the line of every refusal fits: its name, six numbers of at most 20 digits with their spaces, and the end
 abbrev pub refused-room : ℕ

@@ -1,12 +1,5 @@
 -- Text written into a buffer, or anything else into a lent slice.
-use mathlib.Core.Bool.{cond}
-use mathlib.Core.List.{List, _++_}
-use mathlib.Core.Path.{_≡_}
-use Prim.Native.Nat.{ℕ, _+_, _≤_}
-use lib.Dec.{leb}
-use lib.ListN.{length, take, drop}
-use Rattle·std.specs.declared.option.Option.{Option}
-use Rattle·std.specs.declared.option.Option.the-variants.{None, Some}
+use Rattle.std.specs.Prelude.{◌≡◌, ℕ, ◌+◌, ◌≤◌, cond, List, ◌++◌, length, take, drop, Some, None, Option, nat_le}
 
 -- the buffer with text from an index on
 abbrev pub written : {X : Type 0} → List X → ℕ → List X → List X
@@ -20,8 +13,8 @@ pub record Wrote {X : Type 0} (before : List X) (at : ℕ) (text after : List X)
 
 -- a call that writes the whole text at the front, or nothing: what it answers,
 abbrev pub length-if-fits : List ℕ → List ℕ → Option ℕ
-length-if-fits text buffer = cond (leb (length text) (length buffer)) (Some (length text)) None
+length-if-fits text buffer = cond (nat_le (length text) (length buffer)) (Some (length text)) None
 
 -- and what it leaves: bytes beyond the text stay
 abbrev pub left-if-fits : List ℕ → List ℕ → List ℕ
-left-if-fits text buffer = cond (leb (length text) (length buffer)) (text ++ drop (length text) buffer) buffer
+left-if-fits text buffer = cond (nat_le (length text) (length buffer)) (text ++ drop (length text) buffer) buffer

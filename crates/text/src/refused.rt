@@ -1,11 +1,8 @@
 // The line that tells of a refusal.
-ghost use mathlib.Core.Bool.{true};
-ghost use mathlib.Core.Path.{_≡_};
-ghost use Prim.Native.Nat.{_≤_};
-ghost use lib.ListN.{length};
-ghost use Rattle·std.specs.Options.{isSome};
-ghost use Rattle·text·specs.Lines.{refused-room, refused-text};
-ghost use Rattle·text·specs.Written.{left-if-fits, length-if-fits};
+ghost use Rattle.std.specs.Prelude.{◌≡◌, ◌≤◌, true, length, is_some};
+ghost use Rattle.text.specs.Lines.{refused-room, refused-text};
+ghost use Rattle.text.specs.Written.{left-if-fits, length-if-fits};
+
 use crate::write::put_only_line;
 use faults::fault::Fault;
 
@@ -15,9 +12,9 @@ pub const REFUSED_ROOM: usize = 134;
 // REFUSED and the number of the reason, its layer, and the offset, account, node and hour of its place.
 // Where the buffer is too short nothing is written.
 pub fn put_refused(buffer: &mut [u8], fault: &Fault) -> Option<usize>
-    ensures answer { λ r. ⌜ r ≡ length-if-fits (refused-text (now (fault .entry))) (now (buffer .entry)) ⌝ }
-    ensures after { λ _. ⌜ now (buffer .exit) ≡ left-if-fits (refused-text (now (fault .entry))) (now (buffer .entry)) ⌝ }
-    ensures fits { λ r. ⌜ (refused-room ≤ length (now (buffer .entry)) → isSome r ≡ true) ⌝ }
+    ensures answer { result ≡ length-if-fits (refused-text fault.now) buffer.old }
+    ensures after { buffer.new ≡ left-if-fits (refused-text fault.now) buffer.old }
+    ensures fits { refused-room ≤ length buffer.old → is_some result ≡ true }
 {
     let place = fault.place;
     put_only_line(

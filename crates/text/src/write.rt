@@ -1,16 +1,11 @@
 // Pieces of text, each written after the last. A function here asks for room, and answers where its text ends.
-ghost use mathlib.Core.Bool.{true};
-ghost use mathlib.Core.Path.{_≡_};
-ghost use Prim.Native.Nat.{_+_, _*_, _≤_};
-ghost use lib.ListN.{length};
-ghost use Rattle·std.specs.Options.{isSome};
-ghost use Rattle·std.specs.Written.{decimal};
-ghost use Rattle·text·specs.Lines.{line, word, words};
-ghost use Rattle·text·specs.Written.{Wrote, left-if-fits, length-if-fits};
+ghost use Rattle.std.specs.Prelude.{◌≡◌, ◌+◌, ◌*◌, ◌≤◌, true, length, is_some, decimal};
+ghost use Rattle.text.specs.Lines.{line, word, words};
+ghost use Rattle.text.specs.Written.{Wrote, left-if-fits, length-if-fits};
 
 pub fn put_bytes(buffer: &mut [u8], at: usize, bytes: &[u8]) -> usize
-    requires { ⌜ at + length (now bytes) ≤ length (now buffer) ⌝ }
-    ensures { λ r. ⌜ Wrote (now (buffer .entry)) at (now (bytes .entry)) (now (buffer .exit)) r ⌝ }
+    requires { at + length bytes.now ≤ length buffer.old }
+    ensures { Wrote buffer.old at bytes.now buffer.new result }
 {
     let end = at + bytes.len();
     buffer[at..end].copy_from_slice(bytes);
@@ -19,8 +14,8 @@ pub fn put_bytes(buffer: &mut [u8], at: usize, bytes: &[u8]) -> usize
 
 // The number in decimal digits, with no leading zero.
 pub fn put_decimal(buffer: &mut [u8], at: usize, n: u64) -> usize
-    requires { ⌜ at + length (decimal n) ≤ length (now buffer) ⌝ }
-    ensures { λ r. ⌜ Wrote (now (buffer .entry)) at (decimal n) (now (buffer .exit)) r ⌝ }
+    requires { at + length (decimal n) ≤ length buffer.old }
+    ensures { Wrote buffer.old at (decimal n) buffer.new result }
 {
     if n >= 10 {
         let end = put_decimal(buffer, at, n / 10);
@@ -32,8 +27,8 @@ pub fn put_decimal(buffer: &mut [u8], at: usize, n: u64) -> usize
 
 // How many digits the number has.
 pub fn decimal_length(n: u64) -> usize
-    ensures value { λ r. ⌜ r ≡ length (decimal n) ⌝ }
-    ensures bound { λ r. ⌜ r ≤ 20 ⌝ }
+    ensures value { result ≡ length (decimal n) }
+    ensures bound { result ≤ 20 }
 {
     if n >= 10 {
         decimal_length(n / 10) + 1
@@ -44,8 +39,8 @@ pub fn decimal_length(n: u64) -> usize
 
 // A space and the number.
 pub fn put_word(buffer: &mut [u8], at: usize, n: u64) -> usize
-    requires { ⌜ at + length (word n) ≤ length (now buffer) ⌝ }
-    ensures { λ r. ⌜ Wrote (now (buffer .entry)) at (word n) (now (buffer .exit)) r ⌝ }
+    requires { at + length (word n) ≤ length buffer.old }
+    ensures { Wrote buffer.old at (word n) buffer.new result }
 {
     let after = put_bytes(buffer, at, b" ");
     put_decimal(buffer, after, n)
@@ -53,8 +48,8 @@ pub fn put_word(buffer: &mut [u8], at: usize, n: u64) -> usize
 
 // A space and the number, for each of the numbers.
 pub fn put_words(buffer: &mut [u8], at: usize, numbers: &[u64]) -> usize
-    requires { ⌜ at + length (words (now numbers)) ≤ length (now buffer) ⌝ }
-    ensures { λ r. ⌜ Wrote (now (buffer .entry)) at (words (now (numbers .entry))) (now (buffer .exit)) r ⌝ }
+    requires { at + length (words numbers.now) ≤ length buffer.old }
+    ensures { Wrote buffer.old at (words numbers.now) buffer.new result }
 {
     let mut end = at;
     for n in numbers {
@@ -64,9 +59,9 @@ pub fn put_words(buffer: &mut [u8], at: usize, numbers: &[u64]) -> usize
 }
 
 pub fn words_length(numbers: &[u64]) -> usize
-    requires { ⌜ length (now numbers) ≤ 1000000 ⌝ }
-    ensures value { λ r. ⌜ r ≡ length (words (now (numbers .entry))) ⌝ }
-    ensures bound { λ r. ⌜ r ≤ 21 * length (now (numbers .entry)) ⌝ }
+    requires { length numbers.now ≤ 1000000 }
+    ensures value { result ≡ length (words numbers.now) }
+    ensures bound { result ≤ 21 * length numbers.now }
 {
     let mut total = 0;
     for n in numbers {
@@ -77,8 +72,8 @@ pub fn words_length(numbers: &[u64]) -> usize
 
 // A name, the numbers after it, and the end of the line.
 pub fn put_line(buffer: &mut [u8], at: usize, name: &[u8], numbers: &[u64]) -> usize
-    requires { ⌜ at + length (line (now name) (now numbers)) ≤ length (now buffer) ⌝ }
-    ensures { λ r. ⌜ Wrote (now (buffer .entry)) at (line (now (name .entry)) (now (numbers .entry))) (now (buffer .exit)) r ⌝ }
+    requires { at + length (line name.now numbers.now) ≤ length buffer.old }
+    ensures { Wrote buffer.old at (line name.now numbers.now) buffer.new result }
 {
     let named = put_bytes(buffer, at, name);
     let numbered = put_words(buffer, named, numbers);
@@ -87,11 +82,11 @@ pub fn put_line(buffer: &mut [u8], at: usize, name: &[u8], numbers: &[u64]) -> u
 
 // One line alone, where the buffer has room for it; else nothing is written.
 pub fn put_only_line(buffer: &mut [u8], name: &[u8], numbers: &[u64]) -> Option<usize>
-    requires named { ⌜ length (now name) ≤ 1000000 ⌝ }
-    requires numbered { ⌜ length (now numbers) ≤ 1000000 ⌝ }
-    ensures answer { λ r. ⌜ r ≡ length-if-fits (line (now (name .entry)) (now (numbers .entry))) (now (buffer .entry)) ⌝ }
-    ensures after { λ _. ⌜ now (buffer .exit) ≡ left-if-fits (line (now (name .entry)) (now (numbers .entry))) (now (buffer .entry)) ⌝ }
-    ensures fits { λ r. ⌜ (length (now (name .entry)) + 21 * length (now (numbers .entry)) + 1 ≤ length (now (buffer .entry)) → isSome r ≡ true) ⌝ }
+    requires named { length name.now ≤ 1000000 }
+    requires numbered { length numbers.now ≤ 1000000 }
+    ensures answer { result ≡ length-if-fits (line name.now numbers.now) buffer.old }
+    ensures after { buffer.new ≡ left-if-fits (line name.now numbers.now) buffer.old }
+    ensures fits { length name.now + 21 * length numbers.now + 1 ≤ length buffer.old → is_some result ≡ true }
 {
     if name.len() + words_length(numbers) + 1 > buffer.len() {
         return None;

@@ -1,14 +1,10 @@
 -- A price found among valid ones is valid.
-use mathlib.Core.Bool.{true, false, cond}
-use mathlib.Core.List.{List, [], _∷_}
-use Prim.Native.Nat.{ℕ}
-use Rattle·std.specs.declared.option.Option.{Option}
-use Rattle·std.specs.declared.option.Option.the-variants.{Some, None}
-use Rattle·std.specs.shelf.Lists.{All}
-use Rattle·dayfile.specs.declared.record.Price.{Price}
-use Rattle·closing.specs.Prices.{is-price-of}
-use Rattle·price_grid.specs.Found.{price-at}
-use Rattle·valuation·specs.Valid.{ValidPrice}
+use Rattle.std.proofs.Common.{ℕ, true, false, cond, List, [], ◌∷◌, Some, None, Option}
+use Rattle.std.specs.List.{AllByRecursion as All}
+use Rattle.dayfile.specs.declared.record.Price.{Price}
+use Rattle.closing.specs.Prices.{is-price-of}
+use Rattle.price_grid.specs.Found.{price-at}
+use Rattle.valuation.specs.Valid.{ValidPrice}
 
 -- what is found is valid
 abbrev pub ValidFound : Option Price → Type 0
@@ -19,4 +15,4 @@ pub found-valid : (ps : List Price) (node hour : ℕ) → All ValidPrice ps → 
 found-valid [] node hour h = tt
 found-valid (p ∷ ps) node hour h =
     elim (is-price-of node hour p) as (λ b. ValidFound (cond b (Some p) (price-at ps node hour)))
-    [ true ↦ h .0 | false ↦ found-valid ps node hour (h .1) ]
+    [ true ↦ h.0 | false ↦ found-valid ps node hour h.1 ]

@@ -1,21 +1,16 @@
 -- What one record comes to, in mils: a price in centavos per MWh times energy in kWh.
-use mathlib.Core.Bool.{Bool, true, false, cond}
-use mathlib.Core.List.{List}
-use Prim.Native.Nat.{ℕ, _*_}
-use lib.IntN.{ℤ, pos, negsuc, _+ℤ_, _-ℤ_, _*ℤ_}
-use Rattle·std.specs.declared.option.Option.{Option}
-use Rattle·std.specs.declared.option.Option.the-variants.{Some, None}
-use Rattle·dayfile.specs.Records.{Records}
-use Rattle·dayfile.specs.declared.record.Class.{Class}
-use Rattle·dayfile.specs.declared.record.Class.the-variants.{Generation, Load, Import, Export}
-use Rattle·dayfile.specs.declared.record.Fine.{Fine}
-use Rattle·dayfile.specs.declared.record.Interconnection.{Interconnection}
-use Rattle·dayfile.specs.declared.record.Position.{Position}
-use Rattle·dayfile.specs.declared.record.Price.{Price}
-use Rattle·dayfile.specs.declared.record.Reserve.{Reserve}
-use Rattle·price_grid.specs.Found.{price-at}
-use Rattle·valuation·specs.declared.market.Market.{Market}
-use Rattle·valuation·specs.declared.market.Market.the-variants.{DayAhead, RealTime}
+use Rattle.std.specs.Prelude.{ℕ, ◌*◌, Bool, true, false, cond, List, ℤ, pos, negsuc, ◌+ℤ◌, ◌-ℤ◌, ◌*ℤ◌, Some, None, Option}
+use Rattle.dayfile.specs.Records.{Records}
+use Rattle.dayfile.specs.declared.record.Class.{Class}
+use Rattle.dayfile.specs.declared.record.Class.TheVariants.{Generation, Load, Import, Export}
+use Rattle.dayfile.specs.declared.record.Fine.{Fine}
+use Rattle.dayfile.specs.declared.record.Interconnection.{Interconnection}
+use Rattle.dayfile.specs.declared.record.Position.{Position}
+use Rattle.dayfile.specs.declared.record.Price.{Price}
+use Rattle.dayfile.specs.declared.record.Reserve.{Reserve}
+use Rattle.price_grid.specs.Found.{price-at}
+use Rattle.valuation.specs.declared.market.Market.{Market}
+use Rattle.valuation.specs.declared.market.Market.TheVariants.{DayAhead, RealTime}
 
 -- 1 for energy put into the system, −1 for energy taken out
 abbrev pub class-sign : Class → ℤ
@@ -33,8 +28,8 @@ class-buys Export = true
 
 -- the price in a market; 0 where there is none
 abbrev pub price-in : Market → Option Price → ℤ
-price-in DayAhead (Some p) = p .«day_ahead»
-price-in RealTime (Some p) = p .«real_time»
+price-in DayAhead (Some p) = p.day_ahead
+price-in RealTime (Some p) = p.real_time
 price-in DayAhead None = pos 0
 price-in RealTime None = pos 0
 
@@ -43,37 +38,37 @@ market-price prices market node hour = price-in market (price-at prices node hou
 
 -- a position's deviation: real-time energy less day-ahead energy
 abbrev pub deviation : Position → ℤ
-deviation p = pos (p .«real_time») -ℤ pos (p .«day_ahead»)
+deviation p = pos p.real_time -ℤ pos p.day_ahead
 
 -- what a market settles of a position: the energy of the day before, and in real time the deviation from it
 abbrev pub position-energy : Market → Position → ℤ
-position-energy DayAhead p = pos (p .«day_ahead»)
+position-energy DayAhead p = pos p.day_ahead
 position-energy RealTime p = deviation p
 
 -- sign × price × energy
 abbrev pub position-term : List Price → Market → Position → ℤ
-position-term prices market p = class-sign (p .class) *ℤ market-price prices market (p .node) (p .hour) *ℤ position-energy market p
+position-term prices market p = class-sign p.class *ℤ market-price prices market p.node p.hour *ℤ position-energy market p
 
 -- what a position adds to its account's physical purchases, in kWh
 abbrev pub purchase : Records → Position → ℕ
-purchase r p = cond (class-buys (p .class)) (p .«real_time») 0
+purchase r p = cond (class-buys p.class) p.real_time 0
 
 abbrev pub reserve-price : Market → Reserve → ℤ
-reserve-price DayAhead x = pos (x .«day_ahead_price»)
-reserve-price RealTime x = pos (x .«real_time_price»)
+reserve-price DayAhead x = pos x.day_ahead_price
+reserve-price RealTime x = pos x.real_time_price
 
 -- a reserve of the day before, and in real time the deviation from it
 abbrev pub reserve-energy : Market → Reserve → ℤ
-reserve-energy DayAhead x = pos (x .«day_ahead»)
-reserve-energy RealTime x = pos (x .«real_time») -ℤ pos (x .«day_ahead»)
+reserve-energy DayAhead x = pos x.day_ahead
+reserve-energy RealTime x = pos x.real_time -ℤ pos x.day_ahead
 
 abbrev pub reserve-term : Market → Reserve → ℤ
 reserve-term market x = reserve-price market x *ℤ reserve-energy market x
 
 -- export less import over an interconnection
 abbrev pub net-export : Market → Interconnection → ℤ
-net-export DayAhead x = pos (x .«day_ahead_export») -ℤ pos (x .«day_ahead_import»)
-net-export RealTime x = pos (x .«real_time_export») -ℤ pos (x .«real_time_import»)
+net-export DayAhead x = pos x.day_ahead_export -ℤ pos x.day_ahead_import
+net-export RealTime x = pos x.real_time_export -ℤ pos x.real_time_import
 
 -- the exchange of the day before, and in real time the deviation from it
 abbrev pub exchange-energy : Market → Interconnection → ℤ
@@ -81,19 +76,19 @@ exchange-energy DayAhead x = net-export DayAhead x
 exchange-energy RealTime x = net-export RealTime x -ℤ net-export DayAhead x
 
 abbrev pub exchange-term : List Price → Market → Interconnection → ℤ
-exchange-term prices market x = market-price prices market (x .node) (x .hour) *ℤ exchange-energy market x
+exchange-term prices market x = market-price prices market x.node x.hour *ℤ exchange-energy market x
 
 -- imbalance price × real-time net export
 abbrev pub imbalance-term : Interconnection → ℤ
-imbalance-term x = x .«imbalance_price» *ℤ net-export RealTime x
+imbalance-term x = x.imbalance_price *ℤ net-export RealTime x
 
 -- the value of the imbalance (Ec. 475 of the Manual de Liquidaciones): day-ahead price × day-ahead net export
 -- + real-time price × real-time net export − real-time price × day-ahead net export − imbalance price × real-time net export
 abbrev pub imbalance-value : List Price → Interconnection → ℤ
 imbalance-value prices x =
-    market-price prices DayAhead (x .node) (x .hour) *ℤ net-export DayAhead x
-    +ℤ market-price prices RealTime (x .node) (x .hour) *ℤ net-export RealTime x
-    -ℤ market-price prices RealTime (x .node) (x .hour) *ℤ net-export DayAhead x
+    market-price prices DayAhead x.node x.hour *ℤ net-export DayAhead x
+    +ℤ market-price prices RealTime x.node x.hour *ℤ net-export RealTime x
+    -ℤ market-price prices RealTime x.node x.hour *ℤ net-export DayAhead x
     -ℤ imbalance-term x
 
 -- what a reserve that failed came to, day ahead and in real time together (Ec. 485)
@@ -102,4 +97,4 @@ failed-term x = reserve-term DayAhead x +ℤ reserve-term RealTime x
 
 -- a fine in mils
 abbrev pub fine-mils : Fine → ℤ
-fine-mils x = pos (x .centavos * 1000)
+fine-mils x = pos (x.centavos * 1000)

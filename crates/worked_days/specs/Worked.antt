@@ -1,18 +1,12 @@
 -- The common table of worked examples.
-use mathlib.Core.List.{List, [], _∷_, _++_, map}
-use mathlib.Core.Path.{_≡_}
-use Prim.Native.Nat.{ℕ}
-use lib.Chars.{codes}
-use lib.IntN.{pos, negℤ}
-use lib.ListN.{take}
-use Rattle·std.specs.Joined.{joined}
-use Rattle·std.specs.shelf.Lists.{Has}
-use Rattle·dayfile.specs.Records.{Records}
-use Rattle·dayfile.specs.declared.record.Class.the-variants.{Generation, Load}
-use Rattle·sharing.specs.declared.choice.Rule.the-variants.{LargestRemainder, Running}
-use Rattle·codes.specs.declared.code.Code.{Code}
-use Rattle·codes.specs.declared.code.Code.the-variants.{A3, A4, B3, B4, F3, F4}
-use Rattle·worked_days·specs.Examples.{Answer, Asked, Example, correcting, defined, expected, numbers, printing, refused, settling, sharing}
+use Rattle.std.specs.Prelude.{◌≡◌, ℕ, List, [], ◌∷◌, ◌++◌, map, take, pos, neg_ℤ, codes}
+use Rattle.std.specs.List.{flat_map, ContainsAt as Has}
+use Rattle.dayfile.specs.Records.{Records}
+use Rattle.dayfile.specs.declared.record.Class.TheVariants.{Generation, Load}
+use Rattle.sharing.specs.declared.choice.Rule.TheVariants.{LargestRemainder, Running}
+use Rattle.codes.specs.declared.code.Code.{Code}
+use Rattle.codes.specs.declared.code.Code.TheVariants.{A3, A4, B3, B4, F3, F4}
+use Rattle.worked_days.specs.Examples.{Answer, Asked, Example, correcting, defined, expected, numbers, printing, refused, settling, sharing}
 
 abbrev pub asked : Code → ℕ → Asked
 asked code party = record { code = code; party = party }
@@ -22,28 +16,28 @@ asked code party = record { code = code; party = party }
 abbrev pub failed-day : ℕ → Records
 failed-day price = record {
   heading = record { year = 2019; month = 3; day = 5; hours = 24; accounts = 2; nodes = 1; interconnections = 0; real = tt };
-  prices = record { node = 1; hour = 7; «day_ahead» = pos 50000; «real_time» = pos 60000 } ∷ [];
+  prices = record { node = 1; hour = 7; day_ahead = pos 50000; real_time = pos 60000 } ∷ [];
   positions =
-      record { account = 1; node = 1; hour = 7; class = Generation; «day_ahead» = 1000; «real_time» = 1000 }
-      ∷ record { account = 2; node = 1; hour = 7; class = Load; «day_ahead» = 1000; «real_time» = 1000 } ∷ [];
+      record { account = 1; node = 1; hour = 7; class = Generation; day_ahead = 1000; real_time = 1000 }
+      ∷ record { account = 2; node = 1; hour = 7; class = Load; day_ahead = 1000; real_time = 1000 } ∷ [];
   interconnections = [];
-  reserves = record { account = 1; unit = 12; kind = 3; hour = 7; «day_ahead_price» = 2000; «day_ahead» = 500; «real_time_price» = price; «real_time» = 400 } ∷ [];
+  reserves = record { account = 1; unit = 12; kind = 3; hour = 7; day_ahead_price = 2000; day_ahead = 500; real_time_price = price; real_time = 400 } ∷ [];
   failures = record { unit = 12; kind = 3 } ∷ [];
   fines = [];
 }
 
 abbrev pub without-positions : Records → Records
-without-positions r = record { heading = r .heading; prices = r .prices; positions = []; interconnections = r .interconnections; reserves = r .reserves; failures = r .failures; fines = r .fines }
+without-positions r = record { heading = r.heading; prices = r.prices; positions = []; interconnections = r.interconnections; reserves = r.reserves; failures = r.failures; fines = r.fines }
 
 -- the text of lines
 abbrev pub text : List (List ℕ) → Answer
-text lines = numbers (map pos (joined (λ line. line ++ (10 ∷ [])) lines))
+text lines = numbers (map pos (flat_map (λ line. line ++ (10 ∷ [])) lines))
 
 -- 2019-03-05, 24 hours, 3 accounts, 1 node, 1 interconnection. In hour 7 the prices are 50,000 and 60,000; account 1
 -- generates 3,000 day ahead and 3,100 in real time, accounts 2 and 3 take 2,000 and 1,000; external system 1 is sent
 -- 100 in real time, with an imbalance price of 55,000.
 abbrev pub imbalance-file : List ℕ
-imbalance-file = joined (λ part. part) (
+imbalance-file = flat_map (λ part. part) (
     (codes "DY" ++ (7 ∷ 227 ∷ 3 ∷ 5 ∷ 24 ∷ 3 ∷ 1 ∷ 1 ∷ []))
     ∷ (codes "PN" ++ (1 ∷ 7 ∷ 0 ∷ 0 ∷ 195 ∷ 80 ∷ 0 ∷ 0 ∷ 234 ∷ 96 ∷ []))
     ∷ (codes "EN" ++ (1 ∷ 1 ∷ 7 ∷ 1 ∷ 0 ∷ 0 ∷ 11 ∷ 184 ∷ 0 ∷ 0 ∷ 12 ∷ 28 ∷ []))
@@ -71,10 +65,10 @@ worked-examples =
     ∷ sharing LargestRemainder 7 (0 ∷ 5 ∷ []) (numbers (pos 0 ∷ pos 7 ∷ []))
     -- reserve that failed: the penalty is what it came to in both markets
     ∷ settling Running (failed-day 3000) (asked A3 1 ∷ asked B3 1 ∷ asked A4 2 ∷ asked B4 2 ∷ asked F3 1 ∷ asked F4 51 ∷ [])
-    (numbers (pos 1000000 ∷ negℤ (pos 300000) ∷ negℤ (pos 1000000) ∷ pos 300000 ∷ negℤ (pos 700000) ∷ pos 700000 ∷ []))
+    (numbers (pos 1000000 ∷ neg_ℤ (pos 300000) ∷ neg_ℤ (pos 1000000) ∷ pos 300000 ∷ neg_ℤ (pos 700000) ∷ pos 700000 ∷ []))
     -- the same where that is below 0: there is no penalty
     ∷ settling Running (failed-day 30000) (asked A3 1 ∷ asked B3 1 ∷ asked A4 2 ∷ asked B4 2 ∷ asked F3 1 ∷ asked F4 51 ∷ [])
-    (numbers (pos 1000000 ∷ negℤ (pos 3000000) ∷ negℤ (pos 1000000) ∷ pos 3000000 ∷ pos 0 ∷ pos 0 ∷ []))
+    (numbers (pos 1000000 ∷ neg_ℤ (pos 3000000) ∷ neg_ℤ (pos 1000000) ∷ pos 3000000 ∷ pos 0 ∷ pos 0 ∷ []))
     -- the same without the purchases of account 2: nobody bears the cost of the reserve, refusal 11, layer 3
     ∷ settling Running (without-positions (failed-day 3000)) (asked A3 1 ∷ []) (refused 11 3)
     -- an imbalance that two buyers share
@@ -82,7 +76,7 @@ worked-examples =
     ∷ codes "A1 1 P 150000000" ∷ codes "A1 2 C 100000000" ∷ codes "A1 3 C 50000000" ∷ codes "B1 1 P 6000000"
     ∷ codes "F1 2 C 333333" ∷ codes "F1 3 C 166667" ∷ codes "F2 41 C 5500000" ∷ codes "END 7" ∷ []))
     -- the same after the reading of account 3 was corrected to 1,300: the second issue has what changed
-    ∷ correcting imbalance-file (record { account = 3; node = 1; hour = 7; class = 2; «real_time» = 1300 }) (text (codes "DAY 2019-03-05 24 1"
+    ∷ correcting imbalance-file (record { account = 3; node = 1; hour = 7; class = 2; real_time = 1300 }) (text (codes "DAY 2019-03-05 24 1"
     ∷ codes "B1 3 C 18000000" ∷ codes "B2 2 P 10909090" ∷ codes "B2 3 P 7090910" ∷ codes "F1 2 P 30303" ∷ codes "F1 3 C 30303" ∷ codes "END 5" ∷ []))
     -- the same file without its last byte: refusal 3, layer 1, at the end record
     ∷ printing (take 93 imbalance-file) (text (codes "REFUSED 3 1 90 0 0 0" ∷ []))

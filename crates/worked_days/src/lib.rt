@@ -1,9 +1,9 @@
 // Examples worked by hand, proved of the definitions alone.
-ghost use Rattle·worked_days·specs.Worked.{ExamplesHold};
+ghost use Rattle.worked_days.specs.Worked.{ExamplesHold};
 
 // Every example of the common table is what the definitions say.
 pub fn worked_examples_hold() -> u8
-    ensures { λ _. ⌜ ExamplesHold ⌝ }
+    ensures { ExamplesHold }
 {
     0
 }

@@ -1,10 +1,9 @@
-use native.Mathlib.Omega.{arith}
-use mathlib.Core.Path.{ap, _∙_}
-use Rattle·decoding.specs.Fields.{eight-bytes}
-use Rattle·dayfile_encode·proofs.Digits.{eight-back}
-use Rattle·dayfile_encode·proofs.eight_bytes.Needs as need
+use Rattle.std.proofs.Common.{ap, ◌∙◌, arith}
+use Rattle.decoding.specs.Fields.{eight-bytes}
+use Rattle.dayfile_encode.proofs.Digits.{eight-back}
+use Rattle.dayfile_encode.proofs.eight_bytes.Goals as goal
 
-pub returns : need.returns
+pub returns : goal.returns
 returns c =
-    let e = c .to-be-bytes .ensures in
-    record { bytes = e; back = ap (λ bytes. eight-bytes bytes 0) e ∙ eight-back (c .args .n) (omega arith) }
+    let e = c.to-be-bytes.ensures in
+    record { bytes = e; back = ap (λ bytes. eight-bytes bytes 0) e ∙ eight-back c.args.n (omega arith) }

@@ -1,17 +1,13 @@
-use Prim.Native.Nat.{_<_}
-use native.Mathlib.Omega.{arith}
-use mathlib.Core.Path.{_≡_, ap, _∙_}
-use mir.Syntax.{w32}
-use mir.Val.{Fits, ofZ, toZ}
-use mir.Facts.{fits-ofZ, toZ-ofZ}
-use Rattle·decoding.specs.Fields.{signed-four-bytes}
-use Rattle·dayfile_encode·specs.Encoded.{in-four-signed}
-use Rattle·dayfile_encode·proofs.Digits.{four-back}
-use Rattle·dayfile_encode·proofs.four_signed_bytes.Needs as need
+use Rattle.std.proofs.Common.{◌≡◌, ◌<◌, ap, ◌∙◌, arith, to_z-of_z, w32, Fits, to_z, of_z}
+use mir.Facts.{Fits-of_z}
+use Rattle.decoding.specs.Fields.{signed-four-bytes}
+use Rattle.dayfile_encode.specs.Encoded.{in-four-signed}
+use Rattle.dayfile_encode.proofs.Digits.{four-back}
+use Rattle.dayfile_encode.proofs.four_signed_bytes.Goals as goal
 
-pub returns : need.returns
+pub returns : goal.returns
 returns c =
-    let same : toZ w32 (ofZ w32 (c .args .n)) ≡ c .args .n = toZ-ofZ (c .fits .n) in
-    let fits : Fits w32 (ofZ w32 (c .args .n)) = fits-ofZ (c .fits .n) in
-    let e = c .to-be-bytes .ensures ∙ ap in-four-signed same in
-    record { bytes = e; back = ap (λ bytes. signed-four-bytes bytes 0) e ∙ ap (toZ w32) (four-back (ofZ w32 (c .args .n)) (fits .fits)) ∙ same }
+    let same : to_z w32 (of_z w32 c.args.n) ≡ c.args.n = to_z-of_z c.ranges.n in
+    let fits : Fits w32 (of_z w32 c.args.n) = Fits-of_z c.ranges.n in
+    let e = c.to-be-bytes.ensures ∙ ap in-four-signed same in
+    record { bytes = e; back = ap (λ bytes. signed-four-bytes bytes 0) e ∙ ap (to_z w32) (four-back (of_z w32 c.args.n) fits.fits) ∙ same }

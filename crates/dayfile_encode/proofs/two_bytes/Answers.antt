@@ -1,10 +1,9 @@
-use native.Mathlib.Omega.{arith}
-use mathlib.Core.Path.{ap, _∙_}
-use Rattle·decoding.specs.Fields.{two-bytes}
-use Rattle·dayfile_encode·proofs.Digits.{two-back}
-use Rattle·dayfile_encode·proofs.two_bytes.Needs as need
+use Rattle.std.proofs.Common.{ap, ◌∙◌, arith}
+use Rattle.decoding.specs.Fields.{two_bytes}
+use Rattle.dayfile_encode.proofs.Digits.{two_back}
+use Rattle.dayfile_encode.proofs.two_bytes.Goals as goal
 
-pub returns : need.returns
+pub returns : goal.returns
 returns c =
-    let e = c .to-be-bytes .ensures in
-    record { bytes = e; back = ap (λ bytes. two-bytes bytes 0) e ∙ two-back (c .args .n) (omega arith) }
+    let e = c.to-be-bytes.ensures in
+    record { bytes = e; back = ap (λ bytes. two_bytes bytes 0) e ∙ two_back c.args.n (omega arith) }

@@ -1,5 +1,5 @@
-use Rattle·settlement_laws·proofs.Balance.{cells-are-small, days-balance}
-use Rattle·settlement_laws·proofs.days_stand.Needs as need
+use Rattle.settlement_laws.proofs.Balance.{cells-are-small, days-balance}
+use Rattle.settlement_laws.proofs.days_stand.Goals as goal
 
-pub returns : need.returns
+pub returns : goal.returns
 returns c = record { balance = days-balance; small = cells-are-small }

@@ -1,5 +1,5 @@
-use Rattle·amounts·proofs.Arrays.{grown-at}
-use Rattle·amounts·proofs.purchases.add_to.Needs as need
+use Rattle.amounts.proofs.Arrays.{grown-at}
+use Rattle.amounts.proofs.purchases.add_to.Goals as goal
 
-pub returns : need.returns
-returns c = λ k. grown-at (c .args .account) k (c .pre .low) (c .args .weights .now) (c .args .kwh) (c .pre .high)
+pub returns : goal.returns
+returns c = λ k. grown-at c.args.account k c.requires.low c.args.weights.now c.args.kwh c.requires.high

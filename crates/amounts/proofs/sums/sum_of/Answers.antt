@@ -1,24 +1,23 @@
-use mathlib.Core.Path.{_≡_, refl, sym, _∙_, ap, subst}
-use native.Mathlib.Omega.{arith}
+use Rattle.std.proofs.Common.{◌≡◌, sym, refl, ap, ◌∙◌, subst, arith}
 use borrow.Author.Differences.{ints}
-use Rattle·std.proofs.shelf.Lists.{take-all}
-use Rattle·std.proofs.shelf.Elements.{all-getD}
-use Rattle·codes.specs.Sums.{sum-over}
-use Rattle·amounts·proofs.Adding.{sum-more}
-use Rattle·amounts·proofs.sums.sum_of.Needs as need
+use Rattle.std.proofs.lemmas.List.{take_all}
+use Rattle.std.proofs.ByRecursion.{All-get_or}
+use Rattle.codes.specs.Sums.{sum_over}
+use Rattle.amounts.proofs.Adding.{sum_more}
+use Rattle.amounts.proofs.sums.sum_of.Goals as goal
 
-pub term-total-requires : need.term-total-requires
-term-total-requires g c κs =
-    subst (g .T·Term .valid (c .args .t .now)) (sym (c .x-item .is))
-    (all-getD (g .T·Term .valid (c .args .t .now)) (c .args .xs .now) (c .loop-x .x-index) (c .x-item .result) (omega arith) (c .pre .valid))
+pub term-total-requires : goal.term-total-requires
+term-total-requires g c =
+    subst (g.T.Term.valid c.args.t.now) (sym c.x-item.is)
+    (All-get_or (g.T.Term.valid c.args.t.now) c.args.xs.now c.loop-x.x-index c.x-item.result (omega arith) c.requires.valid)
 
-pub loop-x-again : need.loop-x-again
-loop-x-again g c =
-    let f = g .T·Term .adds (c .args .t .now) in
-    let e = sum-more f (c .args .xs .now) (c .loop-x .x-index) (c .x-item .result) (omega arith) in
-    let v = c .term-total .ensures .value ∙ ap f (c .x-item .is) in
+pub loop-x-preserved : goal.loop-x-preserved
+loop-x-preserved g c =
+    let f = g.T.Term.adds c.args.t.now in
+    let e = sum_more f c.args.xs.now c.loop-x.x-index c.x-item.result (omega arith) in
+    let v = c.term-total.ensures.value ∙ ap f c.x-item.is in
     (omega (arith, ints), omega (arith, ints))
 
-pub returns : need.returns
+pub returns : goal.returns
 returns g c =
-    c .loop-x .inv .0 ∙ ap (sum-over (g .T·Term .adds (c .args .t .now))) (take-all (c .loop-x .x-index) (c .args .xs .now) (omega arith))
+    c.loop-x.invariant.0 ∙ ap (sum_over (g.T.Term.adds c.args.t.now)) (take_all c.loop-x.x-index c.args.xs.now (omega arith))

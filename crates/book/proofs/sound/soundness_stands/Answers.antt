@@ -1,7 +1,7 @@
-use Rattle·book·proofs.Keeps.{day-tells, entering-keeps-sound, opened-is-sound, sound-is-of-its-day, sound-with-record}
-use Rattle·book·proofs.sound.soundness_stands.Needs as need
+use Rattle.book.proofs.Keeps.{day-tells, entering-keeps-sound, opened-is-sound, sound-is-of-its-day, sound-with-record}
+use Rattle.book.proofs.sound.soundness_stands.Goals as goal
 
-pub returns : need.returns
+pub returns : goal.returns
 returns c = record {
   opened = opened-is-sound;
   entered = entering-keeps-sound;

@@ -1,5 +1,5 @@
-use Rattle·codes·proofs.Codes.{code-in-row}
-use Rattle·codes·proofs.code.code_in.Needs as need
+use Rattle.codes.proofs.Codes.{code-in-row}
+use Rattle.codes.proofs.code.code_in.Goals as goal
 
-pub returns : need.returns
-returns c = code-in-row _ (c .args .index) (c .pre)
+pub returns : goal.returns
+returns c = code-in-row _ c.args.index c.requires

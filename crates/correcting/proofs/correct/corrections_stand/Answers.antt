@@ -1,5 +1,5 @@
-use Rattle·correcting·proofs.Corrected.{correcting-keeps-sound}
-use Rattle·correcting·proofs.correct.corrections_stand.Needs as need
+use Rattle.correcting.proofs.Corrected.{correcting-keeps-sound}
+use Rattle.correcting.proofs.correct.corrections_stand.Goals as goal
 
-pub returns : need.returns
+pub returns : goal.returns
 returns c = record { corrected = correcting-keeps-sound }

@@ -1,23 +1,23 @@
-use Rattle·book.specs.Books.{held}
-use Rattle·settlement.specs.Days.{day-cell, settle-refusal}
-use Rattle·day·proofs.Filling.{filled-is}
-use Rattle·day·proofs.Given.{nothing-against, something-against}
-use Rattle·day·proofs.settling.fill_day.Needs as need
+use Rattle.book.specs.Books.{held}
+use Rattle.settlement.specs.Days.{day-cell, settle-refusal}
+use Rattle.day.proofs.Filling.{filled_is}
+use Rattle.day.proofs.Given.{nothing-against, something-against}
+use Rattle.day.proofs.settling.fill_day.Goals as goal
 
-pub returns-in-Ok : need.returns-in-Ok
+pub returns-in-Ok : goal.returns-in-Ok
 returns-in-Ok g c =
-    let r = held (c .args .book .now) in
-    let went = c .in-Ok .ensures tt in
+    let r = held c.args.book.now in
+    let went = c.in-Ok.ensures in
     record {
-      value = nothing-against (settle-refusal r) (went .value);
-      after = filled-is (settle-refusal r) (c .args .table .now) (c .settle-answer .last .table) (day-cell (g .R·Sharing .parts (c .args .rule .now)) r) (c .cells-in .ensures) (went .after);
+      value = nothing-against (settle-refusal r) went.value;
+      after = filled_is (settle-refusal r) c.args.table.now c.settle-answer.new.table (day-cell (g.R.Sharing.parts c.args.rule.now) r) c.cells-in.ensures went.after;
     }
 
-pub returns-in-Err : need.returns-in-Err
+pub returns-in-Err : goal.returns-in-Err
 returns-in-Err g c =
-    let r = held (c .args .book .now) in
-    let went = c .in-Err .ensures tt in
+    let r = held c.args.book.now in
+    let went = c.in-Err.ensures in
     record {
-      value = something-against (settle-refusal r) (c .in-Err .fault) (went .value);
-      after = filled-is (settle-refusal r) (c .args .table .now) (c .settle-answer .last .table) (day-cell (g .R·Sharing .parts (c .args .rule .now)) r) (c .cells-in .ensures) (went .after);
+      value = something-against (settle-refusal r) c.in-Err.fault went.value;
+      after = filled_is (settle-refusal r) c.args.table.now c.settle-answer.new.table (day-cell (g.R.Sharing.parts c.args.rule.now) r) c.cells-in.ensures went.after;
     }

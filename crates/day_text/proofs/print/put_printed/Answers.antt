@@ -1,28 +1,28 @@
-use mathlib.Core.Path.{_≡_}
-use Rattle·book.specs.Books.{held}
-use Rattle·loading.specs.Loading.{file-records}
-use Rattle·day_text·proofs.Printed.{accepted-load, err-answer}
-use Rattle·day_text·proofs.print.put_printed.Needs as need
+use Rattle.std.proofs.Common.{◌≡◌}
+use Rattle.book.specs.Books.{held}
+use Rattle.loading.specs.Loading.{file-records}
+use Rattle.day_text.proofs.Printed.{accepted-load, err-answer}
+use Rattle.day_text.proofs.print.put_printed.Goals as goal
 
-pub put-settled-requires : need.put-settled-requires
-put-settled-requires c κs =
-    let loaded = accepted-load (c .args .file .now) (held (c .args .book .now)) (held (c .load .last .book)) (c .in-Ok .ensures tt .value) (c .in-Ok .ensures tt .after) in
-    record { sound = loaded .sound; ledger = c .pre .ledger; buffer = c .pre .buffer }
+pub put-settled-requires : goal.put-settled-requires
+put-settled-requires c =
+    let loaded = accepted-load c.args.file.now (held c.args.book.now) (held c.load.new.book) c.in-Ok.ensures.value c.in-Ok.ensures.after in
+    record { sound = loaded.sound; ledger = c.requires.ledger; buffer = c.requires.buffer }
 
-pub returns-in-Ok : need.returns-in-Ok
+pub returns-in-Ok : goal.returns-in-Ok
 returns-in-Ok c =
-    let loaded = accepted-load (c .args .file .now) (held (c .args .book .now)) (held (c .load .last .book)) (c .in-Ok .ensures tt .value) (c .in-Ok .ensures tt .after) in
+    let loaded = accepted-load c.args.file.now (held c.args.book.now) (held c.load.new.book) c.in-Ok.ensures.value c.in-Ok.ensures.after in
     record {
-      answer = rw (loaded .records) (c .put-settled .ensures .answer);
-      after = rw (loaded .records) (c .put-settled .ensures .after);
-      within = c .put-settled .ensures .within;
+      answer = rw loaded.records c.put-settled.ensures.answer;
+      after = rw loaded.records c.put-settled.ensures.after;
+      within = c.put-settled.ensures.within;
     }
 
-pub returns-in-Err : need.returns-in-Err
+pub returns-in-Err : goal.returns-in-Err
 returns-in-Err c =
-    let refused = err-answer (file-records (c .args .file .now)) (c .in-Err .fault) (c .in-Err .ensures tt .value) in
+    let refused = err-answer (file-records c.args.file.now) c.in-Err.fault c.in-Err.ensures.value in
     record {
-      answer = rw refused (c .put-fault .ensures .answer);
-      after = rw refused (c .put-fault .ensures .after);
-      within = c .put-fault .ensures .within;
+      answer = rw refused c.put-fault.ensures.answer;
+      after = rw refused c.put-fault.ensures.after;
+      within = c.put-fault.ensures.within;
     }

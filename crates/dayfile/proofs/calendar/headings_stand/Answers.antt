@@ -1,5 +1,5 @@
-use Rattle·dayfile·proofs.Made.{made, same}
-use Rattle·dayfile·proofs.calendar.headings_stand.Needs as need
+use Rattle.dayfile.proofs.Made.{made, same}
+use Rattle.dayfile.proofs.calendar.headings_stand.Goals as goal
 
-pub returns : need.returns
+pub returns : goal.returns
 returns c = record { made = made; same = same }

@@ -1,6 +1,6 @@
-use borrow.Author.Needs.{needs}
-use Rattle·std.proofs.shelf.Lists.{take-rest}
-use Rattle·decoding·proofs.fields.number.Needs as need
+use Rattle.std.proofs.Common.{rules}
+use Rattle.std.proofs.lemmas.List.{take_rest}
+use Rattle.decoding.proofs.fields.number.Goals as goal
 
-pub returns : need.returns
-returns c = record { value = c .from-be-bytes .ensures; rest = take-rest (c .args .bytes .now) 4; left = search needs }
+pub returns : goal.returns
+returns c = record { value = c.from-be-bytes.ensures; rest = take_rest c.args.bytes.now 4; left = search rules }

@@ -1,12 +1,8 @@
-use borrow.Author.Needs.{needs}
-use mathlib.Core.Path.{_∙_}
-use mir.Syntax.{w32}
-use mir.Val.{SFits}
-use mir.Facts.{toZ-ofZ}
-use Rattle·std.proofs.shelf.Lists.{take-rest}
-use Rattle·decoding·proofs.fields.signed_number.Needs as need
+use Rattle.std.proofs.Common.{◌∙◌, to_z-of_z, w32, SFits, rules}
+use Rattle.std.proofs.lemmas.List.{take_rest}
+use Rattle.decoding.proofs.fields.signed_number.Goals as goal
 
-pub returns : need.returns
+pub returns : goal.returns
 returns c =
-    let fits : SFits w32 (c .from-be-bytes .result) = record { sfits = c .from-be-bytes .ok } in
-    record { value = toZ-ofZ fits ∙ c .from-be-bytes .ensures; rest = take-rest (c .args .bytes .now) 4; left = search needs }
+    let fits : SFits w32 c.from-be-bytes.result = record { sfits = c.from-be-bytes.type-inv } in
+    record { value = to_z-of_z fits ∙ c.from-be-bytes.ensures; rest = take_rest c.args.bytes.now 4; left = search rules }

@@ -1,5 +1,5 @@
-use Rattle·history·proofs.Making.{open-step}
-use Rattle·history·proofs.advance.begin_open.Needs as need
+use Rattle.history.proofs.Making.{open_step}
+use Rattle.history.proofs.advance.begin_open.Goals as goal
 
-pub returns-in-Ok : need.returns-in-Ok
-returns-in-Ok c = λ l. open-step _ _ _ _ l (c .in-Ok .ensures tt)
+pub returns-in-Ok : goal.returns-in-Ok
+returns-in-Ok c = λ l. open_step _ _ _ _ l c.in-Ok.ensures

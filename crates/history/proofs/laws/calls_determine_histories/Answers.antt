@@ -1,5 +1,5 @@
-use Rattle·history·proofs.Determined.{determined}
-use Rattle·history·proofs.laws.calls_determine_histories.Needs as need
+use Rattle.history.proofs.Determined.{determined}
+use Rattle.history.proofs.laws.calls_determine_histories.Goals as goal
 
-pub returns : need.returns
+pub returns : goal.returns
 returns c = determined

@@ -1,12 +1,11 @@
-use mathlib.Core.Path.{_≡_, sym, subst}
-use Prim.Native.Nat.{ℕ, _≤_}
-use Rattle·std.specs.shelf.Lists.{All}
-use Rattle·items·proofs.penalties.put_failed.Needs as need
+use Rattle.std.proofs.Common.{◌≡◌, ℕ, ◌≤◌, sym, subst}
+use Rattle.std.specs.List.{AllByRecursion as All}
+use Rattle.items.proofs.penalties.put_failed.Goals as goal
 
-pub add-failed-requires : need.add-failed-requires
-add-failed-requires c κs = record {
-  few = c .pre .few;
-  valid = c .pre .valid;
-  listed = subst (λ (n : ℕ). All (λ x. (1 ≤ x .account) × (x .account ≤ n)) (c .args .reserves .now)) (sym (c .clear .kept .sums)) (c .pre .listed);
-  clear = c .clear .ensures;
+pub add-failed-requires : goal.add-failed-requires
+add-failed-requires c = record {
+  few = c.requires.few;
+  valid = c.requires.valid;
+  listed = subst (λ (n : ℕ). All (λ x. (1 ≤ x.account) × (x.account ≤ n)) c.args.reserves.now) (sym c.clear.auto.sums) c.requires.listed;
+  clear = c.clear.ensures;
 }

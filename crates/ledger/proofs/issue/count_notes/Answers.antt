@@ -1,8 +1,7 @@
-use mathlib.Core.Path.{ap, _∙_}
-use lib.ListN.{length}
-use Rattle·codes.specs.Cells.{cell}
-use Rattle·ledger·proofs.Adding.{rows-are}
-use Rattle·ledger·proofs.issue.count_notes.Needs as need
+use Rattle.std.proofs.Common.{length, ap, ◌∙◌}
+use Rattle.codes.specs.Cells.{cell}
+use Rattle.ledger.proofs.Adding.{rows_are}
+use Rattle.ledger.proofs.issue.count_notes.Goals as goal
 
-pub returns : need.returns
-returns c = λ number. c .count-rows .ensures .value number ∙ ap length (rows-are number (cell (c .args .rest .now)))
+pub returns : goal.returns
+returns c = λ number. c.count-rows.ensures.value number ∙ ap length (rows_are number (cell c.args.rest.now))

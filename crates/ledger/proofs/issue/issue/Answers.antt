@@ -1,28 +1,26 @@
-use mathlib.Core.Path.{sym, ap, subst, _∙_}
-use lib.Dec.{leb}
-use lib.ListN.{length, take}
-use Rattle·std.proofs.shelf.Tests.{and-parts}
-use Rattle·ledger·specs.Issues.{issue-answer, issue-leaves, noted}
-use Rattle·ledger·specs.Steps.{AllTakeable, TakenOff}
-use Rattle·ledger·specs.Notes.{sound-list}
-use Rattle·ledger·proofs.Adding.{front, rest-notes}
-use Rattle·ledger·proofs.Bounds.{takeable}
-use Rattle·ledger·proofs.issue.issue.Needs as need
+use Rattle.std.proofs.Common.{leb, length, take, sym, ap, ◌∙◌, subst}
+use Rattle.std.proofs.lemmas.Bool.{and_parts}
+use Rattle.ledger.specs.Issues.{issue-answer, issue-leaves, noted}
+use Rattle.ledger.specs.Steps.{AllTakeable, TakenOff}
+use Rattle.ledger.specs.Notes.{sound-list}
+use Rattle.ledger.proofs.Adding.{front, rest-notes}
+use Rattle.ledger.proofs.Bounds.{takeable}
+use Rattle.ledger.proofs.issue.issue.Goals as goal
 
-pub over-rest-requires : need.over-rest-requires
-over-rest-requires c κs =
-    let led = c .args .ledger .now in
-    let p = and-parts (leb (c .args .notes) (length led)) (sound-list (c .args .issues) (take (c .args .notes) led)) (c .pre .sound) in
-    subst (λ ns. AllTakeable (c .args .table .now) ns) (sym (front led (c .args .notes))) (takeable (c .args .table .now) (take (c .args .notes) led) (c .args .issues) (c .pre .limited) (p .1) (c .pre .left))
+pub over-rest-requires : goal.over-rest-requires
+over-rest-requires c =
+    let led = c.args.ledger.now in
+    let p = and_parts (leb c.args.notes (length led)) (sound-list c.args.issues (take c.args.notes led)) c.requires.sound in
+    subst (λ ns. AllTakeable c.args.table.now ns) (sym (front led c.args.notes)) (takeable c.args.table.now (take c.args.notes led) c.args.issues c.requires.limited p.1 c.requires.left)
 
-pub returns : need.returns
+pub returns : goal.returns
 returns c =
-    let led = c .args .ledger .now in
-    let t = c .args .table .now in
-    let r = c .over-rest .result in
-    let taken = subst (λ ns. TakenOff t r (noted ns)) (front led (c .args .notes)) (c .over-rest .ensures) in
-    let new = rest-notes led (c .args .notes) (c .args .issues) t r taken in
+    let led = c.args.ledger.now in
+    let t = c.args.table.now in
+    let r = c.over-rest.result in
+    let taken = subst (λ ns. TakenOff t r (noted ns)) (front led c.args.notes) c.over-rest.ensures in
+    let new = rest-notes led c.args.notes c.args.issues t r taken in
     record {
-      answer = c .add-notes .ensures .answer ∙ ap (issue-answer led (c .args .notes)) new;
-      after = c .add-notes .ensures .after ∙ ap (issue-leaves led (c .args .notes)) new;
+      answer = c.add-notes.ensures.answer ∙ ap (issue-answer led c.args.notes) new;
+      after = c.add-notes.ensures.after ∙ ap (issue-leaves led c.args.notes) new;
     }

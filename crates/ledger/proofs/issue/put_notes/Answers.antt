@@ -1,14 +1,12 @@
-use mathlib.Core.Path.{subst, sym}
-use Prim.Native.Nat.{_+_, _≤_}
-use lib.ListN.{length}
-use Rattle·codes.specs.Cells.{cell}
-use Rattle·text.specs.Written.{Wrote}
-use Rattle·ledger·proofs.Adding.{rows-are}
-use Rattle·ledger·proofs.issue.put_notes.Needs as need
+use Rattle.std.proofs.Common.{◌+◌, ◌≤◌, length, sym, subst}
+use Rattle.codes.specs.Cells.{cell}
+use Rattle.text.specs.Written.{Wrote}
+use Rattle.ledger.proofs.Adding.{rows_are}
+use Rattle.ledger.proofs.issue.put_notes.Goals as goal
 
-pub put-rows-requires : need.put-rows-requires
-put-rows-requires c κs = subst (λ ns. c .args .at + length ns ≤ length (c .args .ledger .now)) (sym (rows-are (c .args .issue) (cell (c .args .rest .now)))) (c .pre)
+pub put-rows-requires : goal.put-rows-requires
+put-rows-requires c = subst (λ ns. c.args.at + length ns ≤ length c.args.ledger.now) (sym (rows_are c.args.issue (cell c.args.rest.now))) c.requires
 
-pub returns : need.returns
+pub returns : goal.returns
 returns c =
-    subst (λ ns. Wrote (c .args .ledger .now) (c .args .at) ns (c .put-rows .last .ledger) (c .put-rows .result)) (rows-are (c .args .issue) (cell (c .args .rest .now))) (c .put-rows .ensures)
+    subst (λ ns. Wrote c.args.ledger.now c.args.at ns c.put-rows.new.ledger c.put-rows.result) (rows_are c.args.issue (cell c.args.rest.now)) c.put-rows.ensures

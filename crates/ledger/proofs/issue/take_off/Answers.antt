@@ -1,23 +1,22 @@
-use mathlib.Core.Path.{_∙_}
-use mir.Syntax.{w64}
-use Rattle·std.proofs.shelf.Signed.{toZ-ofZ}
-use Rattle·std.proofs.shelf.Tests.{false≢true}
-use Rattle·ledger·proofs.Counting.{codes-known, no-code, number-of, off, small-off}
-use Rattle·ledger·proofs.issue.take_off.Needs as need
+use Rattle.std.proofs.Common.{◌∙◌, w64}
+use Rattle.std.proofs.lemmas.Int.{to_z-of_z}
+use Rattle.std.proofs.lemmas.Bool.{false≢true}
+use Rattle.ledger.proofs.Counting.{codes-known, no_code, number_of, off, small-off}
+use Rattle.ledger.proofs.issue.take_off.Goals as goal
 
-pub less-left-requires : need.less-left-requires
-less-left-requires c κs =
-    let n = c .args .note .now in
-    small-off (c .args .rest .now) n (c .in-Some .code) (c .pre) (number-of (n .code) (c .in-Some .code) (c .in-Some .ensures tt))
+pub less-left-requires : goal.less-left-requires
+less-left-requires c =
+    let n = c.args.note.now in
+    small-off c.args.rest.now n c.in-Some.code c.requires (number_of n.code c.in-Some.code c.in-Some.ensures)
 
-pub returns-in-Some : need.returns-in-Some
+pub returns-in-Some : goal.returns-in-Some
 returns-in-Some c =
-    let n = c .args .note .now in
+    let n = c.args.note.now in
     record {
       each =
-          off (c .args .rest .now) (c .put .last .self) n (c .in-Some .code) (number-of (n .code) (c .in-Some .code) (c .in-Some .ensures tt)) _
-          (toZ-ofZ w64 (c .less-left .result) (record { sfits = c .less-left .ok }) ∙ c .less-left .ensures) (codes-known n (c .pre .coded) .1) (c .put .ensures);
+          off c.args.rest.now c.put.new.self n c.in-Some.code (number_of n.code c.in-Some.code c.in-Some.ensures) _
+          (to_z-of_z w64 c.less-left.result (record { sfits = c.less-left.type-inv }) ∙ c.less-left.ensures) (codes-known n c.requires.coded).1 c.put.ensures;
     }
 
-pub returns-in-rest : need.returns-in-rest
-returns-in-rest c = absurd (false≢true (no-code (c .args .note .now) (c .pre .coded) (c .in-rest .ensures tt)))
+pub returns-in-default : goal.returns-in-default
+returns-in-default c = absurd (false≢true (no_code c.args.note.now c.requires.coded c.in-default.ensures))

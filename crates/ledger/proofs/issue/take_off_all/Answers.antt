@@ -1,20 +1,20 @@
-use mathlib.Core.Path.{refl, subst}
-use Rattle·std.proofs.shelf.Lists.{take-all}
-use Rattle·ledger·specs.Issues.{noted}
-use Rattle·ledger·specs.Steps.{TakenOff}
-use Rattle·ledger·proofs.Counting.{taken-more, taken-none, takeable-next}
-use Rattle·ledger·proofs.issue.take_off_all.Needs as need
+use Rattle.std.proofs.Common.{refl, subst}
+use Rattle.std.proofs.lemmas.List.{take_all}
+use Rattle.ledger.specs.Issues.{noted}
+use Rattle.ledger.specs.Steps.{TakenOff}
+use Rattle.ledger.proofs.Counting.{taken_more, taken_none, takeable-next}
+use Rattle.ledger.proofs.issue.take_off_all.Goals as goal
 
-pub loop-note-holds : need.loop-note-holds
-loop-note-holds c = taken-none (c .args .rest .now) (c .args .rest .now) refl
+pub loop-note-init : goal.loop-note-init
+loop-note-init c = taken_none c.args.rest.now c.args.rest.now refl
 
-pub take-off-requires : need.take-off-requires
-take-off-requires c κs = takeable-next (c .args .rest .now) (c .loop-note .rest) (c .args .notes .now) (c .loop-note .note-index) (c .loop-note-test .taken) (c .loop-note .inv) (c .pre)
+pub take-off-requires : goal.take-off-requires
+take-off-requires c = takeable-next c.args.rest.now c.loop-note.rest c.args.notes.now c.loop-note.note-index c.loop-note-test.true c.loop-note.invariant c.requires
 
-pub loop-note-again : need.loop-note-again
-loop-note-again c =
-    taken-more (c .args .rest .now) (c .loop-note .rest) (c .args .notes .now) (c .loop-note .note-index) (c .loop-note-test .taken) (c .loop-note .inv) (c .take-off .last .rest) (c .take-off .ensures)
+pub loop-note-preserved : goal.loop-note-preserved
+loop-note-preserved c =
+    taken_more c.args.rest.now c.loop-note.rest c.args.notes.now c.loop-note.note-index c.loop-note-test.true c.loop-note.invariant c.take-off.new.rest c.take-off.ensures
 
-pub returns : need.returns
+pub returns : goal.returns
 returns c =
-    subst (λ ns. TakenOff (c .args .rest .now) (c .loop-note .rest) (noted ns)) (take-all (c .loop-note .note-index) (c .args .notes .now) (c .loop-note-test .left)) (c .loop-note .inv)
+    subst (λ ns. TakenOff c.args.rest.now c.loop-note.rest (noted ns)) (take_all c.loop-note.note-index c.args.notes.now c.loop-note-test.false) c.loop-note.invariant

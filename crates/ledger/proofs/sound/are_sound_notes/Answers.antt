@@ -1,22 +1,21 @@
-use mathlib.Core.Path.{sym, ap, _∙_}
-use native.Mathlib.Omega.{arith}
-use Rattle·std.proofs.shelf.Tests.{and-left}
-use Rattle·ledger·specs.Notes.{sound-after}
-use Rattle·ledger·proofs.Soundness.{past, sound-all, sound-more}
-use Rattle·ledger·proofs.sound.are_sound_notes.Needs as need
+use Rattle.std.proofs.Common.{sym, ap, ◌∙◌, arith}
+use Rattle.std.proofs.lemmas.Bool.{and_left}
+use Rattle.ledger.specs.Notes.{sound-after}
+use Rattle.ledger.proofs.Soundness.{past, sound-all, sound_more}
+use Rattle.ledger.proofs.sound.are_sound_notes.Goals as goal
 
-pub loop-note-holds : need.loop-note-holds
-loop-note-holds c = sym (ap (λ y. sound-after (c .args .issues) y (c .args .notes .now)) (c .none-last .ensures))
+pub loop-note-init : goal.loop-note-init
+loop-note-init c = sym (ap (λ y. sound-after c.args.issues y c.args.notes.now) c.none-last.ensures)
 
-pub returns-then-not-is-next : need.returns-then-not-is-next
+pub returns-then-not-is-next : goal.returns-then-not-is-next
 returns-then-not-is-next c =
-    sym (c .loop-note .inv ∙ sound-more (c .args .issues) (c .loop-note .last) (c .args .notes .now) (c .loop-note .note-index) (c .loop-note-test .taken)
-    ∙ and-left _ _ (sym (c .if-not-is-next .ensures tt)))
+    sym (c.loop-note.invariant ∙ sound_more c.args.issues c.loop-note.last c.args.notes.now c.loop-note.note-index c.loop-note-test.true
+    ∙ and_left _ _ (sym c.if-not-is-next.ensures))
 
-pub loop-note-again : need.loop-note-again
-loop-note-again c =
-    c .loop-note .inv ∙ sound-more (c .args .issues) (c .loop-note .last) (c .args .notes .now) (c .loop-note .note-index) (c .loop-note-test .taken)
-    ∙ past _ _ (sym (c .if-not-is-next .ensures tt))
+pub loop-note-preserved : goal.loop-note-preserved
+loop-note-preserved c =
+    c.loop-note.invariant ∙ sound_more c.args.issues c.loop-note.last c.args.notes.now c.loop-note.note-index c.loop-note-test.true
+    ∙ past _ _ (sym c.if-not-is-next.ensures)
 
-pub returns : need.returns
-returns c = sym (c .loop-note .inv ∙ sound-all (c .args .issues) (c .loop-note .last) (c .args .notes .now) (c .loop-note .note-index) (omega arith))
+pub returns : goal.returns
+returns c = sym (c.loop-note.invariant ∙ sound-all c.args.issues c.loop-note.last c.args.notes.now c.loop-note.note-index (omega arith))

@@ -1,20 +1,19 @@
-use mathlib.Core.Path.{sym, ap, _∙_}
-use Rattle·std.proofs.shelf.Tests.{and-left}
-use Rattle·std.specs.Options.{isSome}
-use Rattle·codes.specs.Codes.{code-of}
-use Rattle·codes.specs.Parties.{party-place}
-use Rattle·ledger·specs.Notes.{known}
-use Rattle·ledger·proofs.Soundness.{past}
-use Rattle·ledger·proofs.sound.is_known.Needs as need
+use Rattle.std.proofs.Common.{is_some, sym, ap, ◌∙◌}
+use Rattle.std.proofs.lemmas.Bool.{and_left}
+use Rattle.codes.specs.Codes.{code_of}
+use Rattle.codes.specs.Parties.{party-place}
+use Rattle.ledger.specs.Notes.{known}
+use Rattle.ledger.proofs.Soundness.{past}
+use Rattle.ledger.proofs.sound.is_known.Goals as goal
 
-pub returns-then-is-some : need.returns-then-is-some
+pub returns-then-is-some : goal.returns-then-is-some
 unfolding known
 returns-then-is-some c =
-    c .is-some-then-is-some .ensures ∙ ap isSome (c .party-place .ensures .value)
-    ∙ sym (past (isSome (code-of (c .args .note .now .code))) (isSome (party-place (c .args .note .now .party))) (sym (c .if-is-some .ensures tt ∙ ap isSome (c .from-number .ensures))))
+    c.is-some-then-is-some.ensures ∙ ap is_some c.party-place.ensures.value
+    ∙ sym (past (is_some (code_of c.args.note.now.code)) (is_some (party-place c.args.note.now.party)) (sym (c.if-is-some.ensures ∙ ap is_some c.from-number.ensures)))
 
-pub returns-else-is-some : need.returns-else-is-some
+pub returns-else-is-some : goal.returns-else-is-some
 unfolding known
 returns-else-is-some c =
-    c .if-is-some .left
-    ∙ sym (and-left (isSome (code-of (c .args .note .now .code))) (isSome (party-place (c .args .note .now .party))) (sym (c .if-is-some .ensures tt ∙ ap isSome (c .from-number .ensures))))
+    c.if-is-some.false
+    ∙ sym (and_left (is_some (code_of c.args.note.now.code)) (is_some (party-place c.args.note.now.party)) (sym (c.if-is-some.ensures ∙ ap is_some c.from-number.ensures)))

@@ -1,6 +1,6 @@
-use Rattle·ledger·specs.Notes.{within-limit}
-use Rattle·ledger·proofs.sound.is_within.Needs as need
+use Rattle.ledger.specs.Notes.{within-limit}
+use Rattle.ledger.proofs.sound.is_within.Goals as goal
 
-pub returns : need.returns
+pub returns : goal.returns
 unfolding within-limit
-returns c = c .all-within .ensures
+returns c = c.all-within.ensures

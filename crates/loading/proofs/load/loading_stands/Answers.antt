@@ -1,5 +1,5 @@
-use Rattle·loading·proofs.Whole.{load-is-calls, loaded-is-sound}
-use Rattle·loading·proofs.load.loading_stands.Needs as need
+use Rattle.loading.proofs.Whole.{load-is-calls, loaded-is-sound}
+use Rattle.loading.proofs.load.loading_stands.Goals as goal
 
-pub returns : need.returns
+pub returns : goal.returns
 returns c = record { calls = load-is-calls; sound = loaded-is-sound }

@@ -1,5 +1,5 @@
-use Rattle·price_grid·proofs.Spots.{none-in}
-use Rattle·price_grid·proofs.grid.no_prices.Needs as need
+use Rattle.price_grid.proofs.Spots.{none_in}
+use Rattle.price_grid.proofs.grid.no_prices.Goals as goal
 
-pub returns : need.returns
-returns g c = none-in (g .N)
+pub returns : goal.returns
+returns g c = none_in g.row.N

@@ -1,16 +1,13 @@
-use mathlib.Core.List.{[], _∷_, _++_, map}
-use mathlib.Core.Path.{sym, ap, _∙_}
-use native.Mathlib.Omega.{arith}
-use Rattle·std.proofs.shelf.Counted.{map-counting-more}
-use Rattle·std.specs.Of.Vec.{vec-items}
-use Rattle·script·specs.Digits.{hex-byte}
-use Rattle·script·proofs.hex.decoded.Needs as need
+use Rattle.std.proofs.Common.{[], ◌∷◌, ◌++◌, map, vec_items, sym, ap, ◌∙◌, arith}
+use Rattle.std.proofs.lemmas.List.FromFn.{map-range_with_len_more}
+use Rattle.script.specs.Digits.{hex-byte}
+use Rattle.script.proofs.hex.decoded.Goals as goal
 
-pub loop-index-again : need.loop-index-again
-loop-index-again c =
-    let i = c .loop-index .index in
-    let f = hex-byte (c .args .digits .now) in (
-      c .push-reserved .ensures .items ∙ (λ k. c .loop-index .inv .0 k ++ (c .byte-at .ensures k ∷ [])) ∙ sym (map-counting-more f 0 i i (omega arith)),
-      omega (arith, c .push-reserved .ensures .len, c .loop-index .inv .1),
-      omega (arith, c .push-reserved .ensures .capacity, c .loop-index .inv .2),
+pub loop-index-preserved : goal.loop-index-preserved
+loop-index-preserved c =
+    let i = c.loop-index.index in
+    let f = hex-byte c.args.digits.now in (
+      c.push-reserved.ensures.items ∙ (λ k. c.loop-index.invariant.0 k ++ (c.byte-at.ensures k ∷ [])) ∙ sym (map-range_with_len_more f 0 i i (omega arith)),
+      omega (arith, c.push-reserved.ensures.len, c.loop-index.invariant.1),
+      omega (arith, c.push-reserved.ensures.capacity, c.loop-index.invariant.2),
     )

@@ -1,6 +1,7 @@
-use Rattle·std.proofs.shelf.Equals.{matches-decides}
-use Rattle·script·proofs.Names.{tested}
-use Rattle·script·proofs.name.is_word.Needs as need
+use Rattle.std.proofs.lemmas.Slice.Eq.{slice_eq-Decides}
+use Rattle.script.proofs.Names.{tested}
+use Rattle.script.proofs.name.is_word.Goals as goal
+use Rattle.std.proofs.lemmas.Bool.Decides.{Decides-eqb}
 
-pub returns : need.returns
-returns c = tested (c .args .word .now) (c .args .name .now) (c .eq .result) (matches-decides (c .args .word .now) (c .args .name .now) (c .eq .result) (c .eq .ensures))
+pub returns : goal.returns
+returns c = tested c.args.word.now c.args.name.now c.eq.result (slice_eq-Decides Decides-eqb c.args.word.now c.args.name.now c.eq.result c.eq.ensures)

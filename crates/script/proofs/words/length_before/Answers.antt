@@ -1,28 +1,25 @@
-use mathlib.Core.Bool.{Bool, not}
-use mathlib.Core.Path.{sym, ap}
-use Prim.Native.Nat.{ℕ}
-use native.Mathlib.Omega.{arith}
-use Rattle·std.proofs.shelf.Sums.{leading-drop-all, leading-drop-no, leading-drop-yes}
-use Rattle·script·specs.Words.{stops}
-use Rattle·script·proofs.words.length_before.Needs as need
+use Rattle.std.proofs.Common.{ℕ, Bool, not, sym, ap, arith}
+use Rattle.std.proofs.lemmas.List.Sums.{prefix_len-drop_all, prefix_len-drop_no, prefix_len-drop_yes}
+use Rattle.script.specs.Words.{stops}
+use Rattle.script.proofs.words.length_before.Goals as goal
 
-pub loop-length-again : need.loop-length-again
-loop-length-again c =
-    let p : ℕ → Bool = λ b. not (stops (c .args .stop) b) in
-    (omega (arith, c .loop-length .inv .0, leading-drop-yes p (c .args .text .now) (c .loop-length .length) 0 (c .loop-length-test .taken) (ap not (sym (c .if-not-is-at .ensures tt)))), omega arith)
+pub loop-length-preserved : goal.loop-length-preserved
+loop-length-preserved c =
+    let p : ℕ → Bool = λ b. not (stops c.args.stop b) in
+    (omega (arith, c.loop-length.invariant.0, prefix_len-drop_yes p c.args.text.now c.loop-length.length 0 c.loop-length-test.true (ap not (sym c.if-not-is-at.ensures))), omega arith)
 
-pub returns-else-not-is-at : need.returns-else-not-is-at
+pub returns-else-not-is-at : goal.returns-else-not-is-at
 returns-else-not-is-at c =
-    let p : ℕ → Bool = λ b. not (stops (c .args .stop) b) in
+    let p : ℕ → Bool = λ b. not (stops c.args.stop b) in
     record {
-      value = omega (arith, c .loop-length .inv .0, leading-drop-no p (c .args .text .now) (c .loop-length .length) 0 (c .loop-length-test .taken) (ap not (sym (c .if-not-is-at .ensures tt))));
-      bound = c .loop-length .inv .1;
+      value = omega (arith, c.loop-length.invariant.0, prefix_len-drop_no p c.args.text.now c.loop-length.length 0 c.loop-length-test.true (ap not (sym c.if-not-is-at.ensures)));
+      bound = c.loop-length.invariant.1;
     }
 
-pub returns-after-loop-length : need.returns-after-loop-length
+pub returns-after-loop-length : goal.returns-after-loop-length
 returns-after-loop-length c =
-    let p : ℕ → Bool = λ b. not (stops (c .args .stop) b) in
+    let p : ℕ → Bool = λ b. not (stops c.args.stop b) in
     record {
-      value = omega (arith, c .loop-length .inv .0, leading-drop-all p (c .args .text .now) (c .loop-length .length) (c .loop-length-test .left));
-      bound = c .loop-length .inv .1;
+      value = omega (arith, c.loop-length.invariant.0, prefix_len-drop_all p c.args.text.now c.loop-length.length c.loop-length-test.false);
+      bound = c.loop-length.invariant.1;
     }

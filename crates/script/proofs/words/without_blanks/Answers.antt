@@ -1,13 +1,11 @@
-use mathlib.Core.Path.{ap, _∙_}
-use native.Mathlib.Omega.{arith}
-use lib.ListN.{drop, length-drop, length-take}
-use Rattle·std.proofs.shelf.Lists.{take-rest}
-use Rattle·script·proofs.words.without_blanks.Needs as need
+use Rattle.std.proofs.Common.{drop, ap, ◌∙◌, arith, length-drop, length-take}
+use Rattle.std.proofs.lemmas.List.{take_rest}
+use Rattle.script.proofs.words.without_blanks.Goals as goal
 
-pub returns : need.returns
+pub returns : goal.returns
 returns c =
-    let t = c .args .text .now in
+    let t = c.args.text.now in
     record {
-      value = take-rest t (c .length-before .result) ∙ ap (λ n. drop n t) (c .length-before .ensures .value);
+      value = take_rest t c.length-before.result ∙ ap (λ n. drop n t) c.length-before.ensures.value;
       bound = simp (length-take, length-drop) (omega arith);
     }

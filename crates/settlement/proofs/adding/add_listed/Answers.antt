@@ -1,42 +1,35 @@
-use mathlib.Core.Path.{_≡_, refl, sym, ap, _∙_}
-use Prim.Native.Nat.{ℕ, _+_}
-use native.Mathlib.Omega.{arith}
+use Rattle.std.proofs.Common.{◌≡◌, ℕ, ◌+◌, get_or, ℤ, pos, ◌+ℤ◌, nat_abs, sym, refl, ap, ◌∙◌, arith, w64, SFits, rules}
 use borrow.Author.Differences.{ints}
-use borrow.Author.Needs.{needs}
-use lib.IntN.{ℤ, pos, natAbs, _+ℤ_}
-use lib.ListN.{getD}
-use mir.Syntax.{w64}
-use mir.Val.{SFits}
-use Rattle·std.proofs.shelf.Signed.{toZ-ofZ}
-use Rattle·amounts.specs.Amounts.{owned-by}
-use Rattle·settlement·proofs.Known.{known-account}
-use Rattle·settlement·proofs.Rows.{first-amounts, first-more, first-none, past-first, row-as, row-more, row-none}
-use Rattle·settlement·proofs.adding.add_listed.Needs as need
+use Rattle.std.proofs.lemmas.Int.{to_z-of_z}
+use Rattle.amounts.specs.Amounts.{owned_by}
+use Rattle.settlement.proofs.Known.{known-account}
+use Rattle.settlement.proofs.Rows.{first-amounts, first_more, first-none, past_first, row_as, row_more, row-none}
+use Rattle.settlement.proofs.adding.add_listed.Goals as goal
 
-pub loop-i-holds : need.loop-i-holds
-loop-i-holds c = row-none (c .args .table .now) (c .args .code) _ (first-none (c .args .amounts .now))
+pub loop-i-init : goal.loop-i-init
+loop-i-init c = row-none c.args.table.now c.args.code _ (first-none c.args.amounts.now)
 
-pub add-requires : need.add-requires
-add-requires c κs =
-    let i = c .loop-i .i in
-    let xs = c .args .amounts .now in
-    let fits : SFits w64 (getD xs i (pos 0)) = search needs in
-    let z = past-first xs i (i + 1) (omega arith) in
+pub add-requires : goal.add-requires
+add-requires c =
+    let i = c.loop-i.i in
+    let xs = c.args.amounts.now in
+    let fits : SFits w64 (get_or xs i (pos 0)) = search rules in
+    let z = past_first xs i (i + 1) (omega arith) in
     record {
-      known = known-account (i + 1) (omega arith) (omega (arith, c .pre .few));
-      before = omega (arith, ints, c .loop-i .inv .row (i + 1), z, c .pre .room (i + 1));
-      more = simp toZ-ofZ (omega (arith, c .pre .small i (omega arith)));
+      known = known-account (i + 1) (omega arith) (omega (arith, c.requires.few));
+      before = omega (arith, ints, c.loop-i.invariant.row (i + 1), z, c.requires.room (i + 1));
+      more = simp to_z-of_z (omega (arith, c.requires.small i (omega arith)));
     }
 
-pub loop-i-again : need.loop-i-again
-loop-i-again c =
-    let i = c .loop-i .i in
-    let xs = c .args .amounts .now in
-    let fits : SFits w64 (getD xs i (pos 0)) = search needs in
-    row-more (c .args .table .now) (c .loop-i .table) (c .add .last .table) (c .args .code) _ _ (i + 1) _ (c .loop-i .inv) (c .add .ensures)
-    (λ q. first-more xs i q ∙ ap (λ z. first-amounts xs i q +ℤ owned-by (i + 1) q z) (sym (toZ-ofZ w64 (getD xs i (pos 0)) fits)))
+pub loop-i-preserved : goal.loop-i-preserved
+loop-i-preserved c =
+    let i = c.loop-i.i in
+    let xs = c.args.amounts.now in
+    let fits : SFits w64 (get_or xs i (pos 0)) = search rules in
+    row_more c.args.table.now c.loop-i.table c.add.new.table c.args.code _ _ (i + 1) _ c.loop-i.invariant c.add.ensures
+    (λ q. first_more xs i q ∙ ap (λ z. first-amounts xs i q +ℤ owned_by (i + 1) q z) (sym (to_z-of_z w64 (get_or xs i (pos 0)) fits)))
 
-pub returns : need.returns
+pub returns : goal.returns
 returns c =
-    let n : c .loop-i .i ≡ _ = omega arith in
-    row-as (c .args .table .now) (c .loop-i .table) (c .args .code) _ _ (λ q. ap (λ k. first-amounts (c .args .amounts .now) k q) n) (c .loop-i .inv)
+    let n : c.loop-i.i ≡ _ = omega arith in
+    row_as c.args.table.now c.loop-i.table c.args.code _ _ (λ q. ap (λ k. first-amounts c.args.amounts.now k q) n) c.loop-i.invariant

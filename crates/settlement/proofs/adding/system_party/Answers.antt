@@ -1,6 +1,6 @@
-use mathlib.Core.Path.{refl}
-use Rattle·settlement·proofs.Known.{known-system}
-use Rattle·settlement·proofs.adding.system_party.Needs as need
+use Rattle.std.proofs.Common.{refl}
+use Rattle.settlement.proofs.Known.{known-system}
+use Rattle.settlement.proofs.adding.system_party.Goals as goal
 
-pub returns : need.returns
-returns c = record { value = refl; known = known-system (c .args .system) (c .pre .low) (c .pre .high) }
+pub returns : goal.returns
+returns c = record { value = refl; known = known-system c.args.system c.requires.low c.requires.high }

@@ -1,21 +1,19 @@
-use mathlib.Core.Path.{_≡_, refl, sym, ap, _∙_}
-use native.Mathlib.Omega.{arith}
+use Rattle.std.proofs.Common.{◌≡◌, sym, refl, ap, ◌∙◌, arith, w64}
 use borrow.Author.Differences.{ints}
-use mir.Syntax.{w64}
-use Rattle·std.proofs.shelf.Signed.{toZ-ofZ}
-use Rattle·book.specs.Books.{held}
-use Rattle·amounts.specs.Amounts.{owned-by}
-use Rattle·settlement·proofs.PartyRows.{service-row}
-use Rattle·settlement·proofs.Rows.{row-as, row-one}
-use Rattle·settlement·proofs.items.pay_fines.Needs as need
+use Rattle.std.proofs.lemmas.Int.{to_z-of_z}
+use Rattle.book.specs.Books.{held}
+use Rattle.amounts.specs.Amounts.{owned_by}
+use Rattle.settlement.proofs.PartyRows.{service-row}
+use Rattle.settlement.proofs.Rows.{row_as, row_one}
+use Rattle.settlement.proofs.items.pay_fines.Goals as goal
 
-pub add-requires : need.add-requires
-add-requires c κs = record { known = refl; before = omega (arith, c .pre .room 52); more = omega (arith, ints) }
+pub add-requires : goal.add-requires
+add-requires c = record { known = refl; before = omega (arith, c.requires.room 52); more = omega (arith, ints) }
 
-pub returns : need.returns
+pub returns : goal.returns
 returns c =
-    let r = held (c .args .book .now) in
-    let e = toZ-ofZ w64 (c .total-fines .result) (record { sfits = c .total-fines .ok }) ∙ c .total-fines .ensures .value in
-    row-as (c .args .table .now) (c .add .last .table) (c .args .code) _ _
-    (λ q. ap (owned-by 52 q) e ∙ service-row (r .heading .accounts) _ (c .pre .sound .few) q)
-    (row-one (c .args .table .now) (c .add .last .table) (c .args .code) 52 _ (c .add .ensures))
+    let r = held c.args.book.now in
+    let e = to_z-of_z w64 c.total-fines.result (record { sfits = c.total-fines.type-inv }) ∙ c.total-fines.ensures.value in
+    row_as c.args.table.now c.add.new.table c.args.code _ _
+    (λ q. ap (owned_by 52 q) e ∙ service-row r.heading.accounts _ c.requires.sound.few q)
+    (row_one c.args.table.now c.add.new.table c.args.code 52 _ c.add.ensures)

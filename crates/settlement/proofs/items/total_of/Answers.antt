@@ -1,20 +1,18 @@
-use mathlib.Core.Path.{_≡_, ap, _∙_}
-use native.Mathlib.Omega.{arith}
+use Rattle.std.proofs.Common.{◌≡◌, ℤ, pos, ap, ◌∙◌, arith}
 use borrow.Author.Differences.{ints}
-use lib.IntN.{ℤ, pos}
-use Rattle·std.proofs.shelf.Lists.{take-all}
-use Rattle·codes.specs.Sums.{sum-over}
-use Rattle·amounts.proofs.Adding.{sum-more}
-use Rattle·settlement·proofs.items.total_of.Needs as need
+use Rattle.std.proofs.lemmas.List.{take_all}
+use Rattle.codes.specs.Sums.{sum_over}
+use Rattle.amounts.proofs.Adding.{sum_more}
+use Rattle.settlement.proofs.items.total_of.Goals as goal
 
-pub add-total : need.add-total
-add-total c = omega (arith, ints, c .loop-amount .inv .1, c .pre .few, c .pre .small (c .loop-amount .amount-index) (omega arith))
+pub overflow-add-total : goal.overflow-add-total
+overflow-add-total c = omega (arith, ints, c.loop-amount.invariant.1, c.requires.few, c.requires.small c.loop-amount.amount-index (omega arith))
 
-pub loop-amount-again : need.loop-amount-again
-loop-amount-again c =
-    let e = sum-more (λ (z : ℤ). z) (c .args .amounts .now) (c .loop-amount .amount-index) (pos 0) (omega arith) in
-    let s = c .pre .small (c .loop-amount .amount-index) (omega arith) in
-    (omega (arith, ints, c .pre .few), omega (arith, ints, c .pre .few))
+pub loop-amount-preserved : goal.loop-amount-preserved
+loop-amount-preserved c =
+    let e = sum_more (λ (z : ℤ). z) c.args.amounts.now c.loop-amount.amount-index (pos 0) (omega arith) in
+    let s = c.requires.small c.loop-amount.amount-index (omega arith) in
+    (omega (arith, ints, c.requires.few), omega (arith, ints, c.requires.few))
 
-pub returns : need.returns
-returns c = c .loop-amount .inv .0 ∙ ap (sum-over (λ (z : ℤ). z)) (take-all (c .loop-amount .amount-index) (c .args .amounts .now) (omega arith))
+pub returns : goal.returns
+returns c = c.loop-amount.invariant.0 ∙ ap (sum_over (λ (z : ℤ). z)) (take_all c.loop-amount.amount-index c.args.amounts.now (omega arith))

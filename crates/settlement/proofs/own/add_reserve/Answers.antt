@@ -1,41 +1,33 @@
-use mathlib.Core.Bool.{cond}
-use mathlib.Core.List.{List}
-use mathlib.Core.Path.{_≡_, sym, ap, subst, _∙_}
-use Prim.Native.Nat.{ℕ, _≤_}
-use native.Mathlib.Omega.{arith}
-use lib.Dec.{eqb}
-use lib.IntN.{pos}
-use lib.ListN.{length}
-use Rattle·std.specs.Of.Vec.{vec-items}
-use Rattle·std.specs.shelf.Lists.{All}
-use Rattle·dayfile.specs.declared.record.Reserve.{Reserve}
-use Rattle·book.specs.Books.{held}
-use Rattle·codes.specs.Sums.{sum-over}
-use Rattle·valuation.specs.Terms.{reserve-term}
-use Rattle·valuation.specs.Valid.{Listed, ValidReserve}
-use Rattle·amounts.specs.Amounts.{owned-by}
-use Rattle·bounds.proofs.Facts.{all-map}
-use Rattle·settlement·proofs.PartyRows.{account-row}
-use Rattle·settlement·proofs.Rows.{row-as}
-use Rattle·settlement·proofs.own.add_reserve.Needs as need
+use Rattle.std.proofs.Common.{◌≡◌, ℕ, ◌≤◌, cond, eqb, List, length, pos, vec_items, sym, ap, ◌∙◌, subst, arith}
+use Rattle.std.specs.List.{AllByRecursion as All}
+use Rattle.dayfile.specs.declared.record.Reserve.{Reserve}
+use Rattle.book.specs.Books.{held}
+use Rattle.codes.specs.Sums.{sum_over}
+use Rattle.valuation.specs.Terms.{reserve-term}
+use Rattle.valuation.specs.Valid.{Listed, ValidReserve}
+use Rattle.amounts.specs.Amounts.{owned_by}
+use Rattle.bounds.proofs.Facts.{all_map}
+use Rattle.settlement.proofs.PartyRows.{account-row}
+use Rattle.settlement.proofs.Rows.{row_as}
+use Rattle.settlement.proofs.own.add_reserve.Goals as goal
 
-pub add-each-requires : need.add-each-requires
-add-each-requires c κs =
-    let s = c .pre .sound in
-    let r = held (c .args .book .now) in
-    let e = sym (c .as-slice .ensures .value) in
+pub add-each-requires : goal.add-each-requires
+add-each-requires c =
+    let s = c.requires.sound in
+    let r = held c.args.book.now in
+    let e = sym c.as-slice.ensures.value in
     record {
-      few = subst (λ (xs : List Reserve). length xs ≤ 1000) e (omega (arith, s .few-reserves));
-      valid = subst (λ (xs : List Reserve). All ValidReserve xs) e (s .reserves);
-      listed = subst (λ (xs : List Reserve). All (λ x. (1 ≤ x .account) × (x .account ≤ 32)) xs) e
-          (all-map (λ x. Listed r (x .account)) _ (λ x p. (p .0, omega (arith, p .1, s .few))) (r .reserves) (s .reserve-accounts));
-      room = c .pre .room;
+      few = subst (λ (xs : List Reserve). length xs ≤ 1000) e (omega (arith, s.few-reserves));
+      valid = subst (λ (xs : List Reserve). All ValidReserve xs) e s.reserves;
+      listed = subst (λ (xs : List Reserve). All (λ x. (1 ≤ x.account) × (x.account ≤ 32)) xs) e
+          (all_map (λ x. Listed r x.account) _ (λ x p. (p.0, omega (arith, p.1, s.few))) r.reserves s.reserve-accounts);
+      room = c.requires.room;
     }
 
-pub returns : need.returns
+pub returns : goal.returns
 returns c =
-    let r = held (c .args .book .now) in
-    row-as (c .args .table .now) (c .add-each .last .table) (c .args .code) _ _
-    (λ q. (λ i. sum-over (λ x. owned-by (x .account) q (cond (eqb (x .hour) (c .args .hour)) (reserve-term (c .args .market) x) (pos 0))) (c .as-slice .ensures .value i))
-    ∙ account-row (λ x. x .account) (λ x. cond (eqb (x .hour) (c .args .hour)) (reserve-term (c .args .market) x) (pos 0)) (r .heading .accounts) (r .reserves) (c .pre .sound .reserve-accounts) q)
-    (c .add-each .ensures)
+    let r = held c.args.book.now in
+    row_as c.args.table.now c.add-each.new.table c.args.code _ _
+    (λ q. (λ i. sum_over (λ x. owned_by x.account q (cond (eqb x.hour c.args.hour) (reserve-term c.args.market x) (pos 0))) (c.as-slice.ensures.value i))
+    ∙ account-row (λ x. x.account) (λ x. cond (eqb x.hour c.args.hour) (reserve-term c.args.market x) (pos 0)) r.heading.accounts r.reserves c.requires.sound.reserve-accounts q)
+    c.add-each.ensures

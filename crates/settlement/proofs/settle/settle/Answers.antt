@@ -1,6 +1,6 @@
-use Rattle·book.specs.Books.{held}
-use Rattle·bounds.proofs.Facts.{sound-facts}
-use Rattle·settlement·proofs.settle.settle.Needs as need
+use Rattle.book.specs.Books.{held}
+use Rattle.bounds.proofs.Facts.{sound-facts}
+use Rattle.settlement.proofs.settle.settle.Goals as goal
 
-pub settle-priced-requires : need.settle-priced-requires
-settle-priced-requires g c κs = sound-facts (held (c .args .book .now)) (c .pre)
+pub settle-priced-requires : goal.settle-priced-requires
+settle-priced-requires g c = sound-facts (held c.args.book.now) c.requires

@@ -1,39 +1,31 @@
-use mathlib.Core.Bool.{cond}
-use mathlib.Core.List.{List}
-use mathlib.Core.Path.{_≡_, sym, ap, subst, _∙_}
-use Prim.Native.Nat.{ℕ, _≤_}
-use native.Mathlib.Omega.{arith}
-use lib.Dec.{eqb}
-use lib.IntN.{pos}
-use lib.ListN.{length}
-use mir.Syntax.{w64}
-use Rattle·std.specs.shelf.Lists.{All}
-use Rattle·std.proofs.shelf.Signed.{toZ-ofZ}
-use Rattle·dayfile.specs.declared.record.Reserve.{Reserve}
-use Rattle·book.specs.Books.{held}
-use Rattle·codes.specs.Sums.{sum-over}
-use Rattle·valuation.specs.Terms.{reserve-term}
-use Rattle·valuation.specs.Valid.{ValidReserve}
-use Rattle·bounds.proofs.Bounds.{all-reserve, all-reserve-le, size-small}
-use Rattle·bounds.proofs.Facts.{all-map}
-use Rattle·settlement·proofs.shared.reserve_total.Needs as need
+use Rattle.std.proofs.Common.{◌≡◌, ℕ, ◌≤◌, cond, eqb, List, length, pos, sym, ap, ◌∙◌, subst, arith, w64}
+use Rattle.std.specs.List.{AllByRecursion as All}
+use Rattle.std.proofs.lemmas.Int.{to_z-of_z}
+use Rattle.dayfile.specs.declared.record.Reserve.{Reserve}
+use Rattle.book.specs.Books.{held}
+use Rattle.codes.specs.Sums.{sum_over}
+use Rattle.valuation.specs.Terms.{reserve-term}
+use Rattle.valuation.specs.Valid.{ValidReserve}
+use Rattle.bounds.proofs.Bounds.{all-reserve, all-reserve-le, size_small}
+use Rattle.bounds.proofs.Facts.{all_map}
+use Rattle.settlement.proofs.shared.reserve_total.Goals as goal
 
-pub sum-of-requires : need.sum-of-requires
-sum-of-requires c κs =
-    let s = c .pre .sound in
-    let r = held (c .args .book .now) in
-    let e = sym (c .as-slice .ensures .value) in
+pub sum-of-requires : goal.sum-of-requires
+sum-of-requires c =
+    let s = c.requires.sound in
+    let r = held c.args.book.now in
+    let e = sym c.as-slice.ensures.value in
     record {
-      few = subst (λ (xs : List Reserve). length xs ≤ 1000) e (omega (arith, s .few-reserves));
-      valid = subst (λ (xs : List Reserve). All ValidReserve xs) e (s .reserves);
+      few = subst (λ (xs : List Reserve). length xs ≤ 1000) e (omega (arith, s.few-reserves));
+      valid = subst (λ (xs : List Reserve). All ValidReserve xs) e s.reserves;
     }
 
-pub returns : need.returns
+pub returns : goal.returns
 returns c =
-    let s = c .pre .sound in
-    let r = held (c .args .book .now) in
-    let h = c .args .hour in
-    let m = c .args .market in
-    let e = toZ-ofZ w64 (c .sum-of .result) (record { sfits = c .sum-of .ok }) ∙ c .sum-of .ensures
-    ∙ (λ i. sum-over (λ x. cond (eqb (x .hour) h) (reserve-term m x) (pos 0)) (c .as-slice .ensures .value i)) ∙ sym (all-reserve r s m h) in
-    record { value = e; bound = rw e (omega (arith, all-reserve-le r s m h, size-small r s h)) }
+    let s = c.requires.sound in
+    let r = held c.args.book.now in
+    let h = c.args.hour in
+    let m = c.args.market in
+    let e = to_z-of_z w64 c.sum-of.result (record { sfits = c.sum-of.type-inv }) ∙ c.sum-of.ensures
+    ∙ (λ i. sum_over (λ x. cond (eqb x.hour h) (reserve-term m x) (pos 0)) (c.as-slice.ensures.value i)) ∙ sym (all-reserve r s m h) in
+    record { value = e; bound = rw e (omega (arith, all-reserve-le r s m h, size_small r s h)) }

@@ -1,16 +1,11 @@
-use mathlib.Core.Bool.{cond}
-use mathlib.Core.Path.{_∙_}
-use Prim.Native.Nat.{_+_}
-use native.Mathlib.Omega.{arith}
-use lib.Dec.{ltb}
-use lib.ListN.{length, getD}
-use Rattle·std.proofs.shelf.Counted.{fill-by-all}
-use Rattle·sharing·specs.LargestRemainder.{rank}
-use Rattle·sharing·proofs.largest_remainder.give_missing.Needs as need
+use Rattle.std.proofs.Common.{◌+◌, cond, ltb, length, get_or, ◌∙◌, arith}
+use Rattle.std.proofs.lemmas.List.FromFn.{fill_by_all}
+use Rattle.sharing.specs.LargestRemainder.{rank}
+use Rattle.sharing.proofs.largest_remainder.give_missing.Goals as goal
 
-pub returns : need.returns
+pub returns : goal.returns
 returns c =
-    let rs = c .args .rests .now in
-    fill-by-all (λ i. getD (c .args .shares .now) i 0 + cond (ltb (rank rs i) (c .args .lacking)) 1 0) (c .loop-i .shares) (length rs) 0
-    (c .loop-i .kept .shares ∙ c .pre .places)
-    (λ k h. c .loop-i .inv .0 k (omega arith))
+    let rs = c.args.rests.now in
+    fill_by_all (λ i. get_or c.args.shares.now i 0 + cond (ltb (rank rs i) c.args.lacking) 1 0) c.loop-i.shares (length rs) 0
+    (c.loop-i.auto.shares ∙ c.requires.places)
+    (λ k h. c.loop-i.invariant.0 k (omega arith))

@@ -1,19 +1,17 @@
-use mathlib.Core.Path.{sym, _∙_}
-use Prim.Native.Nat.{ℕ}
-use native.Mathlib.Omega.{arith}
-use Rattle·std.proofs.shelf.Tests.{cond-false, cond-true}
-use Rattle·sharing·specs.LargestRemainder.{before}
-use Rattle·sharing·proofs.Counts.{count-more}
-use Rattle·sharing·proofs.largest_remainder.rank_of.Needs as need
-use Rattle·sharing·proofs.largest_remainder.rank_of.Needs.{then-comes-before, else-comes-before}
+use Rattle.std.proofs.Common.{ℕ, sym, ◌∙◌, arith}
+use Rattle.std.proofs.lemmas.Bool.{cond-false, cond-true}
+use Rattle.sharing.specs.LargestRemainder.{before}
+use Rattle.sharing.specs.Counts.{count-more}
+use Rattle.sharing.proofs.largest_remainder.rank_of.Goals as goal
+use Rattle.sharing.proofs.largest_remainder.rank_of.Goals.{then-comes-before, else-comes-before}
 
-pub loop-j-again : need.loop-j-again
-loop-j-again c =
-    let test = before (c .args .rests .now) (c .args .i) in
-    let b = test (c .loop-j .j) in
-    let more = count-more (c .loop-j .j) test in
-    let so-far = c .loop-j .inv .0 in
-    elim (c .if-comes-before .came) [
-      | then-comes-before w ↦ (omega (arith, w .n-is, more, so-far, cond-true {A = ℕ} b 1 0 (sym (c .comes-before .ensures) ∙ w .if-comes-before .taken)), omega (arith, w .n-is))
-      | else-comes-before w ↦ (omega (arith, w .n-is, more, so-far, cond-false {A = ℕ} b 1 0 (sym (c .comes-before .ensures) ∙ w .if-comes-before .left)), omega (arith, w .n-is))
+pub loop-j-preserved : goal.loop-j-preserved
+loop-j-preserved c =
+    let test = before c.args.rests.now c.args.i in
+    let b = test c.loop-j.j in
+    let more = count-more c.loop-j.j test in
+    let so_far = c.loop-j.invariant.0 in
+    elim c.if-comes-before.branch [
+      | then-comes-before w ↦ (omega (arith, w.n-is, more, so_far, cond-true {A = ℕ} b 1 0 (sym c.comes-before.ensures ∙ w.if-comes-before.true)), omega (arith, w.n-is))
+      | else-comes-before w ↦ (omega (arith, w.n-is, more, so_far, cond-false {A = ℕ} b 1 0 (sym c.comes-before.ensures ∙ w.if-comes-before.false)), omega (arith, w.n-is))
     ]

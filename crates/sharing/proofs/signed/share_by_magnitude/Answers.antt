@@ -1,49 +1,42 @@
-use mathlib.Core.Bool.{true}
-use mathlib.Core.List.{map}
-use mathlib.Core.Path.{_≡_, sym, ap, _∙_}
-use native.Mathlib.Omega.{arith}
-use lib.IntN.{natAbs}
-use lib.ListN.{length}
-use mir.Syntax.{w64}
-use Rattle·std.proofs.shelf.Signed.{toZ-ofZ}
-use Rattle·std.proofs.shelf.Sums.{getD-le-sumBy}
-use Rattle·std.specs.shelf.Lists.{sum}
-use Rattle·sharing·specs.Shareable.{admitted, not-shareable}
-use Rattle·sharing·specs.Signed.{with-sign-of}
-use Rattle·sharing·proofs.Admitted.{admitted-parts, facts, ok-of}
-use Rattle·sharing·proofs.SignedSums.{signed-answers, signed-refuses}
-use Rattle·sharing·proofs.signed.share_by_magnitude.Needs as need
+use Rattle.std.proofs.Common.{◌≡◌, true, map, length, nat_abs, sum, sym, ap, ◌∙◌, arith, w64}
+use Rattle.std.proofs.lemmas.Int.{to_z-of_z}
+use Rattle.std.proofs.lemmas.List.Sums.{get_or-le-sum_by}
+use Rattle.sharing.specs.Shareable.{admitted, not-shareable}
+use Rattle.sharing.specs.Signed.{with-sign-of}
+use Rattle.sharing.specs.Admitted.{admitted-parts, facts, ok_of}
+use Rattle.sharing.proofs.SignedSums.{signed-answers, signed-refuses}
+use Rattle.sharing.proofs.signed.share_by_magnitude.Goals as goal
 
 -- by the law the parts add up to the amount, so none is larger
-pub lay-signed-requires : need.lay-signed-requires
-lay-signed-requires g c κs =
-    let a = c .unsigned-abs .result in
-    let ws = c .args .weights .now in
-    let room = c .args .magnitudes .now in
-    let rule = c .args .rule .now in
-    let after = c .share .last .shares in
-    let yes : admitted a ws (length room) ≡ true = ok-of (admitted a ws (length room)) tt tt not-shareable (c .in-Ok .ensures tt .answer) .0 in
-    let s = admitted-parts a ws (length room) yes .1 in
-    let all : sum after ≡ a = ap sum (rw yes at (c .in-Ok .ensures tt .after)) ∙ g .R·Sharing·met .fair rule .whole a ws s in
+pub lay-signed-requires : goal.lay-signed-requires
+lay-signed-requires g c =
+    let a = c.unsigned-abs.result in
+    let ws = c.args.weights.now in
+    let room = c.args.magnitudes.now in
+    let rule = c.args.rule.now in
+    let after = c.share.new.shares in
+    let yes : admitted a ws (length room) ≡ true = (ok_of (admitted a ws (length room)) tt tt not-shareable c.in-Ok.ensures.answer).0 in
+    let s = (admitted-parts a ws (length room) yes).1 in
+    let all : sum after ≡ a = ap sum (rw yes at c.in-Ok.ensures.after) ∙ (g.met.R.Sharing.fair rule).whole a ws s in
     record {
-      places = sym (c .pre) ∙ sym (c .share .kept .shares);
-      small = λ k h. omega (arith, getD-le-sumBy (λ x. x) after k 0 h, facts a ws s .small);
+      places = sym c.requires ∙ sym c.share.auto.shares;
+      small = λ k h. omega (arith, get_or-le-sum_by (λ x. x) after k 0 h, (facts a ws s).small);
     }
 
-pub returns-in-Err : need.returns-in-Err
+pub returns-in-Err : goal.returns-in-Err
 returns-in-Err g c =
-    let z = c .args .amount in
-    let abs : c .unsigned-abs .result ≡ natAbs z = c .unsigned-abs .ensures .value ∙ ap natAbs (toZ-ofZ w64 z (c .fits .amount)) in
-    let both = signed-refuses (g .R·Sharing .parts (c .args .rule .now)) z (c .args .weights .now) (c .args .shares .now) (c .unsigned-abs .result) (length (c .args .magnitudes .now)) (c .in-Err .fault) abs (c .pre) (c .in-Err .ensures tt .answer) in
-    record { answer = both .0; after = both .1 }
+    let z = c.args.amount in
+    let abs : c.unsigned-abs.result ≡ nat_abs z = c.unsigned-abs.ensures.value ∙ ap nat_abs (to_z-of_z w64 z c.ranges.amount) in
+    let both = signed-refuses (g.R.Sharing.parts c.args.rule.now) z c.args.weights.now c.args.shares.now c.unsigned-abs.result (length c.args.magnitudes.now) c.in-Err.fault abs c.requires c.in-Err.ensures.answer in
+    record { answer = both.0; after = both.1 }
 
-pub returns-in-Ok : need.returns-in-Ok
+pub returns-in-Ok : goal.returns-in-Ok
 returns-in-Ok g c =
-    let z = c .args .amount in
-    let fits = c .fits .amount in
-    let abs : c .unsigned-abs .result ≡ natAbs z = c .unsigned-abs .ensures .value ∙ ap natAbs (toZ-ofZ w64 z fits) in
-    let laid : c .lay-signed .last .shares ≡ map (with-sign-of z) (c .share .last .shares) =
-    c .lay-signed .ensures ∙ ap (λ x. map (with-sign-of x) (c .share .last .shares)) (toZ-ofZ w64 z fits) in
-    let both = signed-answers (g .R·Sharing .parts (c .args .rule .now)) z (c .args .weights .now) (c .args .shares .now) (c .unsigned-abs .result) (c .args .magnitudes .now) (c .share .last .shares) (c .lay-signed .last .shares)
-    abs (c .pre) (c .in-Ok .ensures tt .answer) (c .in-Ok .ensures tt .after) laid in
-    record { answer = both .0; after = both .1 }
+    let z = c.args.amount in
+    let fits = c.ranges.amount in
+    let abs : c.unsigned-abs.result ≡ nat_abs z = c.unsigned-abs.ensures.value ∙ ap nat_abs (to_z-of_z w64 z fits) in
+    let laid : c.lay-signed.new.shares ≡ map (with-sign-of z) c.share.new.shares =
+    c.lay-signed.ensures ∙ ap (λ x. map (with-sign-of x) c.share.new.shares) (to_z-of_z w64 z fits) in
+    let both = signed-answers (g.R.Sharing.parts c.args.rule.now) z c.args.weights.now c.args.shares.now c.unsigned-abs.result c.args.magnitudes.now c.share.new.shares c.lay-signed.new.shares
+    abs c.requires c.in-Ok.ensures.answer c.in-Ok.ensures.after laid in
+    record { answer = both.0; after = both.1 }

@@ -1,18 +1,15 @@
-use mathlib.Core.List.{[], _∷_}
-use mathlib.Core.Path.{_≡_}
-use native.Mathlib.Omega.{arith}
-use lib.ListN.{length}
-use Rattle·text.specs.Lines.{words}
-use Rattle·text.proofs.Writing.{length-line}
-use Rattle·statement·specs.Statements.{day-name, first-line}
-use Rattle·statement·proofs.issued.first_line_length.Needs as need
+use Rattle.std.proofs.Common.{◌≡◌, [], ◌∷◌, length, arith}
+use Rattle.text.specs.Lines.{words}
+use Rattle.text.proofs.Writing.{length-line}
+use Rattle.statement.specs.Statements.{day-name, first-line}
+use Rattle.statement.proofs.issued.first_line_length.Goals as goal
 
-pub returns : need.returns
+pub returns : goal.returns
 unfolding first-line
 returns c =
-    let h = c .args .heading .now in
-    let same : length (words (c .from .result ∷ c .from-2 .result ∷ [])) ≡ length (words (h .hours ∷ c .args .issue ∷ [])) = λ i. length (words (c .from .ensures i ∷ c .from-2 .ensures i ∷ [])) in
+    let h = c.args.heading.now in
+    let same : length (words (c.from.result ∷ c.from-2.result ∷ [])) ≡ length (words (h.hours ∷ c.args.issue ∷ [])) = λ i. length (words (c.from.ensures i ∷ c.from-2.ensures i ∷ [])) in
     record {
-      value = omega (arith, length-line (day-name h) (h .hours ∷ c .args .issue ∷ []), same, c .words-length .ensures .value);
-      bound = omega (arith, c .words-length .ensures .bound);
+      value = omega (arith, length-line (day-name h) (h.hours ∷ c.args.issue ∷ []), same, c.words-length.ensures.value);
+      bound = omega (arith, c.words-length.ensures.bound);
     }

@@ -1,13 +1,11 @@
-use mathlib.Core.List.{[], _∷_}
-use native.Mathlib.Omega.{arith}
-use lib.Chars.{codes}
-use Rattle·text.proofs.Writing.{length-line}
-use Rattle·statement·specs.Statements.{last-line}
-use Rattle·statement·proofs.issued.last_line_length.Needs as need
+use Rattle.std.proofs.Common.{[], ◌∷◌, codes, arith}
+use Rattle.text.proofs.Writing.{length-line}
+use Rattle.statement.specs.Statements.{last_line}
+use Rattle.statement.proofs.issued.last_line_length.Goals as goal
 
-pub returns : need.returns
-unfolding last-line
+pub returns : goal.returns
+unfolding last_line
 returns c = record {
-  value = omega (arith, length-line (codes "END") (c .args .count ∷ []), c .words-length .ensures .value);
-  bound = omega (arith, c .words-length .ensures .bound);
+  value = omega (arith, length-line (codes "END") (c.args.count ∷ []), c.words-length.ensures.value);
+  bound = omega (arith, c.words-length.ensures.bound);
 }

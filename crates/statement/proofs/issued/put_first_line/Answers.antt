@@ -1,16 +1,14 @@
-use mathlib.Core.Path.{ap, subst}
-use native.Mathlib.Omega.{arith}
-use lib.ListN.{length}
-use Rattle·text.specs.Written.{Wrote}
-use Rattle·statement·proofs.Stated.{first-from}
-use Rattle·statement·proofs.issued.put_first_line.Needs as need
+use Rattle.std.proofs.Common.{length, ap, subst, arith}
+use Rattle.text.specs.Written.{Wrote}
+use Rattle.statement.proofs.Stated.{first-from}
+use Rattle.statement.proofs.issued.put_first_line.Goals as goal
 
-pub put-line-requires : need.put-line-requires
-put-line-requires c κs =
-    omega (arith, ap length (first-from (c .args .heading .now) (c .args .issue) (c .day-name-name .result) (c .from .result) (c .from-2 .result) (c .day-name-name .ensures) (c .from .ensures) (c .from-2 .ensures)))
+pub put-line-requires : goal.put-line-requires
+put-line-requires c =
+    omega (arith, ap length (first-from c.args.heading.now c.args.issue c.day-name-name.result c.from.result c.from-2.result c.day-name-name.ensures c.from.ensures c.from-2.ensures))
 
-pub returns : need.returns
+pub returns : goal.returns
 returns c =
-    subst (λ z. Wrote (c .args .buffer .now) 0 z (c .put-line .last .buffer) (c .put-line .result))
-    (first-from (c .args .heading .now) (c .args .issue) (c .day-name-name .result) (c .from .result) (c .from-2 .result) (c .day-name-name .ensures) (c .from .ensures) (c .from-2 .ensures))
-    (c .put-line .ensures)
+    subst (λ z. Wrote c.args.buffer.now 0 z c.put-line.new.buffer c.put-line.result)
+    (first-from c.args.heading.now c.args.issue c.day-name-name.result c.from.result c.from-2.result c.day-name-name.ensures c.from.ensures c.from-2.ensures)
+    c.put-line.ensures

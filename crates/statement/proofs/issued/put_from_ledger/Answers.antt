@@ -1,22 +1,20 @@
-use mathlib.Core.Path.{ap, _∙_}
-use native.Mathlib.Omega.{arith}
-use Rattle·std.specs.Options.{isSome}
-use Rattle·text.specs.Written.{left-if-fits, length-if-fits}
-use Rattle·statement·specs.Statements.{statement-text}
-use Rattle·statement·proofs.Room.{few-in, fits-in, front}
-use Rattle·statement·proofs.issued.put_from_ledger.Needs as need
+use Rattle.std.proofs.Common.{is_some, ap, ◌∙◌, arith}
+use Rattle.text.specs.Written.{left-if-fits, length-if-fits}
+use Rattle.statement.specs.Statements.{statement-text}
+use Rattle.statement.proofs.Room.{few-in, fits_in, front}
+use Rattle.statement.proofs.issued.put_from_ledger.Goals as goal
 
-pub put-statement-requires : need.put-statement-requires
-put-statement-requires c κs = few-in (c .args .ledger .now) (c .args .notes) (c .args .issues) (omega arith) (c .pre)
+pub put-statement-requires : goal.put-statement-requires
+put-statement-requires c = few-in c.args.ledger.now c.args.notes c.args.issues (omega arith) c.requires
 
-pub returns : need.returns
+pub returns : goal.returns
 returns c =
-    let h = c .args .heading .now in
-    let led = c .args .ledger .now in
-    let buf = c .args .buffer .now in
-    let is = c .put-statement .ensures .answer ∙ ap (λ ns. length-if-fits (statement-text h ns (c .args .issue)) buf) (front led (c .args .notes)) in
+    let h = c.args.heading.now in
+    let led = c.args.ledger.now in
+    let buf = c.args.buffer.now in
+    let is = c.put-statement.ensures.answer ∙ ap (λ ns. length-if-fits (statement-text h ns c.args.issue) buf) (front led c.args.notes) in
     record {
       answer = is;
-      after = c .put-statement .ensures .after ∙ ap (λ ns. left-if-fits (statement-text h ns (c .args .issue)) buf) (front led (c .args .notes));
-      fits = λ room. ap isSome is ∙ fits-in h led (c .args .notes) (c .args .issues) (c .args .issue) buf (omega arith) (omega arith) (c .pre) room;
+      after = c.put-statement.ensures.after ∙ ap (λ ns. left-if-fits (statement-text h ns c.args.issue) buf) (front led c.args.notes);
+      fits = λ room. ap is_some is ∙ fits_in h led c.args.notes c.args.issues c.args.issue buf (omega arith) (omega arith) c.requires room;
     }

@@ -1,10 +1,10 @@
-use Rattle·statement·specs.Statements.{last-line}
-use Rattle·statement·proofs.issued.put_last_line.Needs as need
+use Rattle.statement.specs.Statements.{last_line}
+use Rattle.statement.proofs.issued.put_last_line.Goals as goal
 
-pub put-line-requires : need.put-line-requires
-unfolding last-line
-put-line-requires c κs = c .pre
+pub put-line-requires : goal.put-line-requires
+unfolding last_line
+put-line-requires c = c.requires
 
-pub returns : need.returns
-unfolding last-line
-returns c = c .put-line .ensures
+pub returns : goal.returns
+unfolding last_line
+returns c = c.put-line.ensures

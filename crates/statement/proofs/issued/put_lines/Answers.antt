@@ -1,33 +1,30 @@
-use mathlib.Core.Path.{subst}
-use Prim.Native.Nat.{_+_}
-use native.Mathlib.Omega.{arith}
-use lib.ListN.{getD, take}
-use Rattle·std.proofs.shelf.Lists.{take-all}
-use Rattle·std.specs.Joined.{joined}
-use Rattle·ledger.specs.Notes.{no-note}
-use Rattle·text.specs.Written.{Wrote}
-use Rattle·text.proofs.Writing.{after, length-pieces-more, none, pieces-front, pieces-more}
-use Rattle·statement·specs.Steps.{line-in}
-use Rattle·statement·proofs.issued.put_lines.Needs as need
+use Rattle.std.proofs.Common.{◌+◌, get_or, take, subst, arith}
+use Rattle.std.proofs.lemmas.List.{take_all}
+use Rattle.std.specs.List.{flat_map}
+use Rattle.ledger.specs.Notes.{no_note}
+use Rattle.text.specs.Written.{Wrote}
+use Rattle.text.proofs.Writing.{after, length-pieces-more, none, pieces-front, pieces_more}
+use Rattle.statement.specs.Steps.{line-in}
+use Rattle.statement.proofs.issued.put_lines.Goals as goal
 
-pub loop-note-holds : need.loop-note-holds
-loop-note-holds c = none (c .args .buffer .now) (c .args .at) (omega arith)
+pub loop-note-init : goal.loop-note-init
+loop-note-init c = none c.args.buffer.now c.args.at (omega arith)
 
-pub put-in-end-requires : need.put-in-end-requires
-put-in-end-requires c κs =
-    let f = line-in (c .args .issue) in
-    let ns = c .args .notes .now in
-    let i = c .loop-note .note-index in
-    omega (arith, c .loop-note .inv .next, length-pieces-more f ns no-note i (c .loop-note-test .taken), pieces-front f (i + 1) ns)
+pub put-in-end-requires : goal.put-in-end-requires
+put-in-end-requires c =
+    let f = line-in c.args.issue in
+    let ns = c.args.notes.now in
+    let i = c.loop-note.note-index in
+    omega (arith, c.loop-note.invariant.next, length-pieces-more f ns no_note i c.loop-note-test.true, pieces-front f (i + 1) ns)
 
-pub loop-note-again : need.loop-note-again
-loop-note-again c =
-    let f = line-in (c .args .issue) in
-    let ns = c .args .notes .now in
-    let i = c .loop-note .note-index in
-    rw (pieces-more f ns no-note i (c .loop-note-test .taken)) (after (joined f (take i ns)) (f (getD ns i no-note)) (c .loop-note .inv) (c .put-in-end .ensures))
+pub loop-note-preserved : goal.loop-note-preserved
+loop-note-preserved c =
+    let f = line-in c.args.issue in
+    let ns = c.args.notes.now in
+    let i = c.loop-note.note-index in
+    rw (pieces_more f ns no_note i c.loop-note-test.true) (after (flat_map f (take i ns)) (f (get_or ns i no_note)) c.loop-note.invariant c.put-in-end.ensures)
 
-pub returns : need.returns
+pub returns : goal.returns
 returns c =
-    subst (λ ns. Wrote (c .args .buffer .now) (c .args .at) (joined (line-in (c .args .issue)) ns) (c .loop-note .buffer) (c .loop-note .end))
-    (take-all (c .loop-note .note-index) (c .args .notes .now) (c .loop-note-test .left)) (c .loop-note .inv)
+    subst (λ ns. Wrote c.args.buffer.now c.args.at (flat_map (line-in c.args.issue) ns) c.loop-note.buffer c.loop-note.end)
+    (take_all c.loop-note.note-index c.args.notes.now c.loop-note-test.false) c.loop-note.invariant

@@ -1,54 +1,48 @@
-use mathlib.Core.List.{List, [], _∷_, _++_}
-use mathlib.Core.Path.{ap, subst, _∙_}
-use Prim.Native.Nat.{ℕ, _+_}
-use native.Mathlib.Omega.{arith}
-use lib.ListN.{length}
-use mir.Syntax.{w64}
-use Rattle·std.proofs.shelf.Signed.{toZ-ofZ}
-use Rattle·std.specs.Written.{decimal}
-use Rattle·codes.specs.declared.code.CodeRow.{CodeRow}
-use Rattle·text.specs.Lines.{word}
-use Rattle·text.specs.Written.{Wrote}
-use Rattle·text.proofs.Writing.{after}
-use Rattle·statement·specs.Lines.{amount-line}
-use Rattle·statement·specs.Sides.{side-and-magnitude, side-letter}
-use Rattle·statement·specs.declared.side.Side.{Side}
-use Rattle·statement·proofs.Lengths.{length-amount-line}
-use Rattle·statement·proofs.line.put_amount_line.Needs as need
+use Rattle.std.proofs.Common.{ℕ, ◌+◌, List, [], ◌∷◌, ◌++◌, length, decimal, ap, ◌∙◌, subst, arith, w64}
+use Rattle.std.proofs.lemmas.Int.{to_z-of_z}
+use Rattle.codes.specs.declared.code.CodeRow.{CodeRow}
+use Rattle.text.specs.Lines.{word}
+use Rattle.text.specs.Written.{Wrote}
+use Rattle.text.proofs.Writing.{after}
+use Rattle.statement.specs.Lines.{amount-line}
+use Rattle.statement.specs.Sides.{side-and-magnitude, side-letter}
+use Rattle.statement.specs.declared.side.Side.{Side}
+use Rattle.statement.proofs.Lengths.{length-amount-line}
+use Rattle.statement.proofs.line.put_amount_line.Goals as goal
 
-pub put-bytes-named-requires : need.put-bytes-named-requires
-put-bytes-named-requires c κs = omega (arith, length-amount-line (c .args .code) (c .args .party) (c .args .amount))
+pub put-bytes-named-requires : goal.put-bytes-named-requires
+put-bytes-named-requires c = omega (arith, length-amount-line c.args.code c.args.party c.args.amount)
 
-pub put-word-numbered-requires : need.put-word-numbered-requires
-put-word-numbered-requires c κs =
-    omega (arith, length-amount-line (c .args .code) (c .args .party) (c .args .amount), ap (λ k. length (decimal k)) (c .from .ensures), c .put-bytes-named .ensures .next, c .put-bytes-named .kept .buffer)
+pub put-word-numbered-requires : goal.put-word-numbered-requires
+put-word-numbered-requires c =
+    omega (arith, length-amount-line c.args.code c.args.party c.args.amount, ap (λ k. length (decimal k)) c.from.ensures, c.put-bytes-named.ensures.next, c.put-bytes-named.auto.buffer)
 
-pub put-bytes-sided-requires : need.put-bytes-sided-requires
-put-bytes-sided-requires c κs =
-    omega (arith, length-amount-line (c .args .code) (c .args .party) (c .args .amount), ap (λ k. length (decimal k)) (c .from .ensures), c .put-bytes-named .ensures .next, c .put-bytes-named .kept .buffer, c .put-word-numbered .ensures .next, c .put-word-numbered .kept .buffer)
+pub put-bytes-sided-requires : goal.put-bytes-sided-requires
+put-bytes-sided-requires c =
+    omega (arith, length-amount-line c.args.code c.args.party c.args.amount, ap (λ k. length (decimal k)) c.from.ensures, c.put-bytes-named.ensures.next, c.put-bytes-named.auto.buffer, c.put-word-numbered.ensures.next, c.put-word-numbered.auto.buffer)
 
-pub put-word-measured-requires : need.put-word-measured-requires
-put-word-measured-requires c κs =
-    let s = c .side-and-magnitude-side .ensures ∙ ap side-and-magnitude (toZ-ofZ w64 (c .args .amount) (c .fits .amount)) in
-    omega (arith, length-amount-line (c .args .code) (c .args .party) (c .args .amount), ap (λ k. length (decimal k)) (c .from .ensures), ap (λ (a : Side × ℕ). length (decimal (a .1))) s, c .put-bytes-named .ensures .next, c .put-bytes-named .kept .buffer, c .put-word-numbered .ensures .next, c .put-word-numbered .kept .buffer, c .put-bytes-sided .ensures .next, c .put-bytes-sided .kept .buffer)
+pub put-word-measured-requires : goal.put-word-measured-requires
+put-word-measured-requires c =
+    let s = c.side-and-magnitude-side.ensures ∙ ap side-and-magnitude (to_z-of_z w64 c.args.amount c.ranges.amount) in
+    omega (arith, length-amount-line c.args.code c.args.party c.args.amount, ap (λ k. length (decimal k)) c.from.ensures, ap (λ (a : Side × ℕ). length (decimal a.1)) s, c.put-bytes-named.ensures.next, c.put-bytes-named.auto.buffer, c.put-word-numbered.ensures.next, c.put-word-numbered.auto.buffer, c.put-bytes-sided.ensures.next, c.put-bytes-sided.auto.buffer)
 
-pub put-bytes-requires : need.put-bytes-requires
-put-bytes-requires c κs =
-    let s = c .side-and-magnitude-side .ensures ∙ ap side-and-magnitude (toZ-ofZ w64 (c .args .amount) (c .fits .amount)) in
-    omega (arith, length-amount-line (c .args .code) (c .args .party) (c .args .amount), ap (λ k. length (decimal k)) (c .from .ensures), ap (λ (a : Side × ℕ). length (decimal (a .1))) s, c .put-bytes-named .ensures .next, c .put-bytes-named .kept .buffer, c .put-word-numbered .ensures .next, c .put-word-numbered .kept .buffer, c .put-bytes-sided .ensures .next, c .put-bytes-sided .kept .buffer, c .put-word-measured .ensures .next, c .put-word-measured .kept .buffer)
+pub put-bytes-requires : goal.put-bytes-requires
+put-bytes-requires c =
+    let s = c.side-and-magnitude-side.ensures ∙ ap side-and-magnitude (to_z-of_z w64 c.args.amount c.ranges.amount) in
+    omega (arith, length-amount-line c.args.code c.args.party c.args.amount, ap (λ k. length (decimal k)) c.from.ensures, ap (λ (a : Side × ℕ). length (decimal a.1)) s, c.put-bytes-named.ensures.next, c.put-bytes-named.auto.buffer, c.put-word-numbered.ensures.next, c.put-word-numbered.auto.buffer, c.put-bytes-sided.ensures.next, c.put-bytes-sided.auto.buffer, c.put-word-measured.ensures.next, c.put-word-measured.auto.buffer)
 
-pub returns : need.returns
+pub returns : goal.returns
 unfolding amount-line
 returns c =
-    let s = c .side-and-magnitude-side .ensures ∙ ap side-and-magnitude (toZ-ofZ w64 (c .args .amount) (c .fits .amount)) in
-    let l = c .letter .ensures ∙ ap (λ (a : Side × ℕ). side-letter (a .0)) s in
-    let row : CodeRow = c .row-row .result in
-    let party : ℕ = c .from .result in
-    let magnitude : ℕ = c .side-and-magnitude-side .result .1 in
-    let name : List ℕ = row .letter ∷ (48 + row .digit) ∷ [] in
-    let side : List ℕ = 32 ∷ c .letter .result ∷ [] in
-    subst (λ z. Wrote (c .args .buffer .now) (c .args .at) z (c .put-bytes .last .buffer) (c .put-bytes .result))
-    (λ i. (c .row-row .ensures i .letter ∷ (48 + c .row-row .ensures i .digit) ∷ []) ++ (word (c .from .ensures i) ++ ((32 ∷ l i ∷ []) ++ (word (s i .1) ++ (10 ∷ [])))))
-    (after name (word party ++ (side ++ (word magnitude ++ (10 ∷ [])))) (c .put-bytes-named .ensures)
-    (after (word party) (side ++ (word magnitude ++ (10 ∷ []))) (c .put-word-numbered .ensures)
-    (after side (word magnitude ++ (10 ∷ [])) (c .put-bytes-sided .ensures) (after (word magnitude) (10 ∷ []) (c .put-word-measured .ensures) (c .put-bytes .ensures)))))
+    let s = c.side-and-magnitude-side.ensures ∙ ap side-and-magnitude (to_z-of_z w64 c.args.amount c.ranges.amount) in
+    let l = c.letter.ensures ∙ ap (λ (a : Side × ℕ). side-letter a.0) s in
+    let row : CodeRow = c.row-row.result in
+    let party : ℕ = c.from.result in
+    let magnitude : ℕ = c.side-and-magnitude-side.result.1 in
+    let name : List ℕ = row.letter ∷ (48 + row.digit) ∷ [] in
+    let side : List ℕ = 32 ∷ c.letter.result ∷ [] in
+    subst (λ z. Wrote c.args.buffer.now c.args.at z c.put-bytes.new.buffer c.put-bytes.result)
+    (λ i. ((c.row-row.ensures i).letter ∷ (48 + (c.row-row.ensures i).digit) ∷ []) ++ (word (c.from.ensures i) ++ ((32 ∷ l i ∷ []) ++ (word (s i).1 ++ (10 ∷ [])))))
+    (after name (word party ++ (side ++ (word magnitude ++ (10 ∷ [])))) c.put-bytes-named.ensures
+    (after (word party) (side ++ (word magnitude ++ (10 ∷ []))) c.put-word-numbered.ensures
+    (after side (word magnitude ++ (10 ∷ [])) c.put-bytes-sided.ensures (after (word magnitude) (10 ∷ []) c.put-word-measured.ensures c.put-bytes.ensures))))

@@ -1,12 +1,11 @@
-use mathlib.Core.Path.{subst, ap}
-use native.Mathlib.Omega.{arith}
-use Rattle·text.specs.Written.{Wrote}
-use Rattle·text.proofs.Writing.{none}
-use Rattle·statement·specs.Lines.{line-under}
-use Rattle·statement·proofs.line.put_note_line.Needs as need
+use Rattle.std.proofs.Common.{ap, subst, arith}
+use Rattle.text.specs.Written.{Wrote}
+use Rattle.text.proofs.Writing.{none}
+use Rattle.statement.specs.Lines.{line-under}
+use Rattle.statement.proofs.line.put_note_line.Goals as goal
 
-pub returns-in-None : need.returns-in-None
+pub returns-in-None : goal.returns-in-None
 returns-in-None c =
-    subst (λ z. Wrote (c .args .buffer .now) (c .args .at) z (c .args .buffer .now) (c .args .at))
-    (ap (λ o. line-under o (c .args .note .now .party) (c .args .note .now .amount)) (c .in-None .ensures tt))
-    (none (c .args .buffer .now) (c .args .at) (omega arith))
+    subst (λ z. Wrote c.args.buffer.now c.args.at z c.args.buffer.now c.args.at)
+    (ap (λ o. line-under o c.args.note.now.party c.args.note.now.amount) c.in-None.ensures)
+    (none c.args.buffer.now c.args.at (omega arith))

@@ -1,11 +1,10 @@
-use mathlib.Core.Path.{refl}
-use native.Mathlib.Omega.{arith}
-use Rattle·text·proofs.Writing.{written-mid}
-use Rattle·text·proofs.write.put_bytes.Needs as need
+use Rattle.std.proofs.Common.{refl, arith}
+use Rattle.text.proofs.Writing.{written-mid}
+use Rattle.text.proofs.write.put_bytes.Goals as goal
 
-pub returns : need.returns
+pub returns : goal.returns
 returns c = record {
-  is = written-mid (c .args .buffer .now) (c .args .at) _ (c .args .bytes .now) (c .copy-from-slice .last .self) (c .copy-from-slice .ensures .after) (omega arith);
+  is = written-mid c.args.buffer.now c.args.at _ c.args.bytes.now c.copy-from-slice.new.self c.copy-from-slice.ensures.after (omega arith);
   next = refl;
-  room = c .pre;
+  room = c.requires;
 }

@@ -1,20 +1,19 @@
-use mathlib.Core.Path.{refl}
-use native.Mathlib.Omega.{arith}
-use Rattle·text·specs.Lines.{line}
-use Rattle·text·proofs.Writing.{fits, length-line, too-long}
-use Rattle·text·proofs.write.put_only_line.Needs as need
+use Rattle.std.proofs.Common.{refl, arith}
+use Rattle.text.specs.Lines.{line}
+use Rattle.text.proofs.Writing.{fits, length-line, too_long}
+use Rattle.text.proofs.write.put_only_line.Goals as goal
 
-pub returns-then-name-words-length : need.returns-then-name-words-length
+pub returns-then-name-words-length : goal.returns-then-name-words-length
 returns-then-name-words-length c =
-    let name = c .args .name .now in
-    let numbers = c .args .numbers .now in
-    let both = too-long (line name numbers) (c .args .buffer .now) (omega (arith, length-line name numbers, c .words-length .ensures .value)) in
-    record { answer = both .0; after = both .1; fits = λ h. absurd (omega (arith, c .words-length .ensures .bound)) }
+    let name = c.args.name.now in
+    let numbers = c.args.numbers.now in
+    let both = too_long (line name numbers) c.args.buffer.now (omega (arith, length-line name numbers, c.words-length.ensures.value)) in
+    record { answer = both.0; after = both.1; fits = λ h. absurd (omega (arith, c.words-length.ensures.bound)) }
 
-pub put-line-requires : need.put-line-requires
-put-line-requires c κs = omega (arith, length-line (c .args .name .now) (c .args .numbers .now), c .words-length .ensures .value)
+pub put-line-requires : goal.put-line-requires
+put-line-requires c = omega (arith, length-line c.args.name.now c.args.numbers.now, c.words-length.ensures.value)
 
-pub returns : need.returns
+pub returns : goal.returns
 returns c =
-    let both = fits (line (c .args .name .now) (c .args .numbers .now)) (c .args .buffer .now) (c .put-line .last .buffer) (c .put-line .result) (c .put-line .ensures) in
-    record { answer = both .0; after = both .1; fits = λ h. refl }
+    let both = fits (line c.args.name.now c.args.numbers.now) c.args.buffer.now c.put-line.new.buffer c.put-line.result c.put-line.ensures in
+    record { answer = both.0; after = both.1; fits = λ h. refl }

@@ -1,29 +1,26 @@
-use mathlib.Core.Path.{subst}
-use Prim.Native.Nat.{_+_}
-use native.Mathlib.Omega.{arith}
-use lib.ListN.{getD, take}
-use Rattle·std.proofs.shelf.Lists.{take-all}
-use Rattle·text·specs.Lines.{word, words}
-use Rattle·text·specs.Written.{Wrote}
-use Rattle·text·proofs.Writing.{after, length-pieces-more, none, pieces-front, pieces-more}
-use Rattle·text·proofs.write.put_words.Needs as need
+use Rattle.std.proofs.Common.{◌+◌, get_or, take, subst, arith}
+use Rattle.std.proofs.lemmas.List.{take_all}
+use Rattle.text.specs.Lines.{word, words}
+use Rattle.text.specs.Written.{Wrote}
+use Rattle.text.proofs.Writing.{after, length-pieces-more, none, pieces-front, pieces_more}
+use Rattle.text.proofs.write.put_words.Goals as goal
 
-pub loop-n-holds : need.loop-n-holds
-loop-n-holds c = none (c .args .buffer .now) (c .args .at) (omega arith)
+pub loop-n-init : goal.loop-n-init
+loop-n-init c = none c.args.buffer.now c.args.at (omega arith)
 
-pub put-word-end-requires : need.put-word-end-requires
-put-word-end-requires c κs =
-    let ns = c .args .numbers .now in
-    let i = c .loop-n .n-index in
-    omega (arith, c .loop-n .inv .next, length-pieces-more word ns 0 i (c .loop-n-test .taken), pieces-front word (i + 1) ns)
+pub put-word-end-requires : goal.put-word-end-requires
+put-word-end-requires c =
+    let ns = c.args.numbers.now in
+    let i = c.loop-n.n-index in
+    omega (arith, c.loop-n.invariant.next, length-pieces-more word ns 0 i c.loop-n-test.true, pieces-front word (i + 1) ns)
 
-pub loop-n-again : need.loop-n-again
-loop-n-again c =
-    let ns = c .args .numbers .now in
-    let i = c .loop-n .n-index in
-    rw (pieces-more word ns 0 i (c .loop-n-test .taken)) (after (words (take i ns)) (word (getD ns i 0)) (c .loop-n .inv) (c .put-word-end .ensures))
+pub loop-n-preserved : goal.loop-n-preserved
+loop-n-preserved c =
+    let ns = c.args.numbers.now in
+    let i = c.loop-n.n-index in
+    rw (pieces_more word ns 0 i c.loop-n-test.true) (after (words (take i ns)) (word (get_or ns i 0)) c.loop-n.invariant c.put-word-end.ensures)
 
-pub returns : need.returns
+pub returns : goal.returns
 returns c =
-    subst (λ ns. Wrote (c .args .buffer .now) (c .args .at) (words ns) (c .loop-n .buffer) (c .loop-n .end))
-    (take-all (c .loop-n .n-index) (c .args .numbers .now) (c .loop-n-test .left)) (c .loop-n .inv)
+    subst (λ ns. Wrote c.args.buffer.now c.args.at (words ns) c.loop-n.buffer c.loop-n.end)
+    (take_all c.loop-n.n-index c.args.numbers.now c.loop-n-test.false) c.loop-n.invariant

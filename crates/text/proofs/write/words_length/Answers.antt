@@ -1,18 +1,16 @@
-use mathlib.Core.Path.{_≡_, ap, _∙_}
-use native.Mathlib.Omega.{arith}
-use lib.ListN.{length}
-use Rattle·std.proofs.shelf.Lists.{take-all}
-use Rattle·text·specs.Lines.{word, words}
-use Rattle·text·proofs.Writing.{length-pieces-more}
-use Rattle·text·proofs.write.words_length.Needs as need
+use Rattle.std.proofs.Common.{◌≡◌, length, ap, ◌∙◌, arith}
+use Rattle.std.proofs.lemmas.List.{take_all}
+use Rattle.text.specs.Lines.{word, words}
+use Rattle.text.proofs.Writing.{length-pieces-more}
+use Rattle.text.proofs.write.words_length.Goals as goal
 
-pub loop-n-again : need.loop-n-again
-loop-n-again c =
-    let more = length-pieces-more word (c .args .numbers .now) 0 (c .loop-n .n-index) (c .loop-n-test .taken) in
-    (omega (arith, more, c .loop-n .inv .0, c .decimal-length .ensures .value), omega (arith, c .loop-n .inv .1, c .decimal-length .ensures .bound))
+pub loop-n-preserved : goal.loop-n-preserved
+loop-n-preserved c =
+    let more = length-pieces-more word c.args.numbers.now 0 c.loop-n.n-index c.loop-n-test.true in
+    (omega (arith, more, c.loop-n.invariant.0, c.decimal-length.ensures.value), omega (arith, c.loop-n.invariant.1, c.decimal-length.ensures.bound))
 
-pub returns : need.returns
+pub returns : goal.returns
 returns c = record {
-  value = c .loop-n .inv .0 ∙ ap (λ ns. length (words ns)) (take-all (c .loop-n .n-index) (c .args .numbers .now) (c .loop-n-test .left));
-  bound = omega (arith, c .loop-n .inv .1);
+  value = c.loop-n.invariant.0 ∙ ap (λ ns. length (words ns)) (take_all c.loop-n.n-index c.args.numbers.now c.loop-n-test.false);
+  bound = omega (arith, c.loop-n.invariant.1);
 }

@@ -1,25 +1,20 @@
-use mathlib.Core.Path.{_≡_, _∙_, ap}
-use Prim.Native.Nat.{_≤_, _*_}
-use native.Mathlib.Omega.{arith}
-use lib.IntN.{natAbs, _*ℤ_}
-use mir.Val.{SFits, toZ, ofZ}
-use mir.Syntax.{w64}
-use Rattle·std.proofs.shelf.Signed.{toZ-ofZ}
-use Rattle·valuation·proofs.Products.{product-le, fits-w64}
-use Rattle·valuation·proofs.terms.product.Needs as need
+use Rattle.std.proofs.Common.{◌≡◌, ◌*◌, ◌≤◌, ◌*ℤ◌, nat_abs, ap, ◌∙◌, arith, w64, SFits, to_z, of_z}
+use Rattle.std.proofs.lemmas.Int.{to_z-of_z}
+use Rattle.valuation.proofs.Products.{product_le, fits-w64}
+use Rattle.valuation.proofs.terms.product.Goals as goal
 
-small : (c : need.Start) → natAbs (c .args .price *ℤ c .args .kwh) ≤ 10000000 * natAbs (c .args .kwh)
-small c = product-le 10000000 (natAbs (c .args .kwh)) (c .args .price) (c .args .kwh) (c .pre .price) (omega arith)
+small : (c : goal.Start) → nat_abs (c.args.price *ℤ c.args.kwh) ≤ 10000000 * nat_abs c.args.kwh
+small c = product_le 10000000 (nat_abs c.args.kwh) c.args.price c.args.kwh c.requires.price (omega arith)
 
-pub mul-result : need.mul-result
-mul-result c =
-    let p = c .fits .price in
-    let k = c .fits .kwh in
-    simp toZ-ofZ (fits-w64 (c .args .price *ℤ c .args .kwh) (omega (arith, small c, c .pre .kwh)))
+pub overflow-mul-result : goal.overflow-mul-result
+overflow-mul-result c =
+    let p = c.ranges.price in
+    let k = c.ranges.kwh in
+    simp to_z-of_z (fits-w64 (c.args.price *ℤ c.args.kwh) (omega (arith, small c, c.requires.kwh)))
 
-pub returns : need.returns
+pub returns : goal.returns
 returns c =
-    let p = c .fits .price in
-    let k = c .fits .kwh in
-    let f : SFits w64 (c .args .price *ℤ c .args .kwh) = fits-w64 (c .args .price *ℤ c .args .kwh) (omega (arith, small c, c .pre .kwh)) in
-    record { value = simp toZ-ofZ; bound = simp toZ-ofZ (small c) }
+    let p = c.ranges.price in
+    let k = c.ranges.kwh in
+    let f : SFits w64 (c.args.price *ℤ c.args.kwh) = fits-w64 (c.args.price *ℤ c.args.kwh) (omega (arith, small c, c.requires.kwh)) in
+    record { value = simp to_z-of_z; bound = simp to_z-of_z (small c) }

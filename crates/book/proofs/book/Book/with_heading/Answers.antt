@@ -1,13 +1,13 @@
-use mathlib.Core.Path.{refl}
-use Rattle·book·proofs.Held.{same-records}
-use Rattle·book·proofs.book.Book.with_heading.Needs as need
+use Rattle.std.proofs.Common.{refl}
+use Rattle.book.proofs.Held.{same-records}
+use Rattle.book.proofs.book.Book.with_heading.Goals as goal
 
-pub returns : need.returns
+pub returns : goal.returns
 returns c =
     same-records _ _ refl
-    (c .in-Continue-prices .ensures tt .made .0)
-    (c .in-Continue-positions .ensures tt .made .0)
-    (c .in-Continue-interconnections .ensures tt .made .0)
-    (c .in-Continue-reserves .ensures tt .made .0)
-    (c .in-Continue-failures .ensures tt .made .0)
-    (c .in-Continue-fines .ensures tt .made .0)
+    c.in-ok-prices.ensures.items
+    c.in-ok-positions.ensures.items
+    c.in-ok-interconnections.ensures.items
+    c.in-ok-reserves.ensures.items
+    c.in-ok-failures.ensures.items
+    c.in-ok-fines.ensures.items

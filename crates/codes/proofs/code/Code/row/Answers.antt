@@ -1,7 +1,6 @@
-use mathlib.Core.Path.{ap, _∙_}
-use lib.ListN.{getD}
-use Rattle·codes·proofs.Codes.{code-table, row-at-index}
-use Rattle·codes·proofs.code.Code.row.Needs as need
+use Rattle.std.proofs.Common.{get_or, ap, ◌∙◌}
+use Rattle.codes.proofs.Codes.{code-table, row-at-index}
+use Rattle.codes.proofs.code.Code.row.Goals as goal
 
-pub returns : need.returns
-returns c = ap (λ i. getD code-table i _) (c .index .ensures .value) ∙ row-at-index _ (c .args .self)
+pub returns : goal.returns
+returns c = ap (λ i. get_or code-table i _) c.index.ensures.value ∙ row-at-index _ c.args.self

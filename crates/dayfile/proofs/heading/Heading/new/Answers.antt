@@ -1,6 +1,6 @@
-use mathlib.Core.Path.{sym}
-use Rattle·dayfile·proofs.Made.{provides}
-use Rattle·dayfile·proofs.heading.Heading.new.Needs as need
+use Rattle.std.proofs.Common.{sym}
+use Rattle.dayfile.proofs.Made.{provides}
+use Rattle.dayfile.proofs.heading.Heading.new.Goals as goal
 
-pub returns : need.returns
+pub returns : goal.returns
 returns c = sym (provides _ _ _)

@@ -1,31 +1,26 @@
-use mathlib.Core.Bool.{true}
-use mathlib.Core.Path.{_≡_, refl, sym, ap, _∙_}
-use Prim.Native.Nat.{_<_}
-use native.Mathlib.Omega.{arith}
-use lib.ListN.{length}
-use Rattle·std.proofs.shelf.Results.{err-from-errBy}
-use Rattle·std.specs.shelf.Lists.{sum}
-use Rattle·sharing·specs.Running.{running}
-use Rattle·sharing·specs.Shareable.{admitted, not-shareable, shareable}
-use Rattle·sharing·proofs.Admitted.{admitted-parts, answers, facts, ok-of, refuses, zero-parts}
-use Rattle·sharing·proofs.RunningFair.{running-fair}
-use Rattle·sharing·proofs.running.RunningSharing.share.Needs as need
+use Rattle.std.proofs.Common.{◌≡◌, ◌<◌, true, length, sum, sym, refl, ap, ◌∙◌, arith}
+use Rattle.std.proofs.lemmas.Result.{err_from_is_err_and}
+use Rattle.sharing.specs.Running.{running}
+use Rattle.sharing.specs.Shareable.{admitted, not-shareable, shareable}
+use Rattle.sharing.specs.Admitted.{admitted-parts, answers, facts, ok_of, refuses, zero-parts}
+use Rattle.sharing.specs.RunningFair.{running-fair}
+use Rattle.sharing.proofs.running.RunningSharing.share.Goals as goal
 
-pub returns-in-Break-total : need.returns-in-Break-total
-returns-in-Break-total c =
-    let p = err-from-errBy (c .from-residual .result) (c .from-residual .ensures .1) in
-    let both = refuses running (c .args .amount) (c .args .weights .now) (c .args .shares .now) (c .in-Break-total .field-0 .0) (c .in-Break-total .ensures tt) in
-    rw (p .1, p .2) record { answer = both .0; after = both .1 }
+pub returns-in-err-total : goal.returns-in-err-total
+returns-in-err-total c =
+    let p = err_from_is_err_and c.from-residual.result c.from-residual.ensures.1 in
+    let both = refuses running c.args.amount c.args.weights.now c.args.shares.now c.in-err-total.field-0.0 c.in-err-total.ensures in
+    rw (p.1, p.2) record { answer = both.0; after = both.1 }
 
-pub returns-then-total-eq0 : need.returns-then-total-eq0
+pub returns-then-total-eq0 : goal.returns-then-total-eq0
 returns-then-total-eq0 c =
-    let a = c .args .amount in
-    let ws = c .args .weights .now in
-    let before = c .args .shares .now in
-    let p = ok-of (admitted a ws (length before)) (sum ws) (c .in-Continue-total .total) not-shareable (c .in-Continue-total .ensures tt) in
-    let q = admitted-parts a ws (length before) (p .0) in
-    let z : sum ws ≡ 0 = sym (p .1) ∙ c .if-total-eq0 .taken in
-    let long : length (c .clear .last .shares) ≡ length ws = c .clear .kept .shares ∙ q .0 in
-    let same = zero-parts running running-fair a ws (q .1) z (c .clear .last .shares) long (λ k h. c .clear .ensures k (omega arith)) in
-    let both = answers running a ws before (c .clear .last .shares) (p .0) same in
-    record { answer = both .0; after = both .1 }
+    let a = c.args.amount in
+    let ws = c.args.weights.now in
+    let before = c.args.shares.now in
+    let p = ok_of (admitted a ws (length before)) (sum ws) c.in-ok-total.total not-shareable c.in-ok-total.ensures in
+    let q = admitted-parts a ws (length before) p.0 in
+    let z : sum ws ≡ 0 = sym p.1 ∙ c.if-total-eq0.true in
+    let long : length c.clear.new.shares ≡ length ws = c.clear.auto.shares ∙ q.0 in
+    let same = zero-parts running running-fair a ws q.1 z c.clear.new.shares long (λ k h. c.clear.ensures k (omega arith)) in
+    let both = answers running a ws before c.clear.new.shares p.0 same in
+    record { answer = both.0; after = both.1 }
