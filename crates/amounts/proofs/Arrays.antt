@@ -8,8 +8,8 @@ module _ (owner k : ℕ) (low : 1 ≤ owner) where
   place_other : (owner ≡ k + 1 → ⊥) → k ≢ owner - 1
   place_other ne e = ne (omega arith)
 
-  pub grown-at : (ws : List ℕ) (v : ℕ) → owner ≤ length ws → get_or (set ws (owner - 1) (get_or ws (owner - 1) 0 + v)) k 0 ≡ get_or ws k 0 + cond (eqb owner (k + 1)) v 0
-  grown-at ws v high =
+  pub grown_at : (ws : List ℕ) (v : ℕ) → owner ≤ length ws → get_or (set ws (owner - 1) (get_or ws (owner - 1) 0 + v)) k 0 ≡ get_or ws k 0 + cond (eqb owner (k + 1)) v 0
+  grown_at ws v high =
       ⊎_elim
       (λ (e : owner ≡ k + 1).
       let at : owner - 1 ≡ k = omega arith in
@@ -19,8 +19,8 @@ module _ (owner k : ℕ) (low : 1 ≤ owner) where
       get_or-set_other ws (owner - 1) k (get_or ws (owner - 1) 0 + v) 0 (place_other ne) ∙ sym (ap (λ n. get_or ws k 0 + n) (cond-false (eqb owner (k + 1)) v 0 (ne_eqb owner (k + 1) ne)) ∙ add-zero (get_or ws k 0)))
       (cases_eq owner (k + 1))
 
-  pub grown-atℤ : (ws : List ℤ) (v : ℤ) → owner ≤ length ws → get_or (set ws (owner - 1) (get_or ws (owner - 1) (pos 0) +ℤ v)) k (pos 0) ≡ get_or ws k (pos 0) +ℤ owned_by owner (k + 1) v
-  grown-atℤ ws v high =
+  pub grown_atℤ : (ws : List ℤ) (v : ℤ) → owner ≤ length ws → get_or (set ws (owner - 1) (get_or ws (owner - 1) (pos 0) +ℤ v)) k (pos 0) ≡ get_or ws k (pos 0) +ℤ owned_by owner (k + 1) v
+  grown_atℤ ws v high =
       ⊎_elim
       (λ (e : owner ≡ k + 1).
       let at : owner - 1 ≡ k = omega arith in
@@ -30,12 +30,12 @@ module _ (owner k : ℕ) (low : 1 ≤ owner) where
       get_or-set_other ws (owner - 1) k (get_or ws (owner - 1) (pos 0) +ℤ v) (pos 0) (place_other ne) ∙ sym (ap (λ n. get_or ws k (pos 0) +ℤ n) (cond-false (eqb owner (k + 1)) v (pos 0) (ne_eqb owner (k + 1) ne)) ∙ +ℤ_idr (get_or ws k (pos 0))))
       (cases_eq owner (k + 1))
 
-pub cond-le : (b : Bool) (v m : ℕ) → v ≤ m → cond b v 0 ≤ m
-cond-le true v m h = h
-cond-le false v m h = omega arith
+pub cond_le : (b : Bool) (v m : ℕ) → v ≤ m → cond b v 0 ≤ m
+cond_le true v m h = h
+cond_le false v m h = omega arith
 
-pub owned-le : (owner k : ℕ) (v : ℤ) (m : ℕ) → nat_abs v ≤ m → nat_abs (owned_by owner k v) ≤ m
-owned-le owner k v m h = pick (eqb owner k)
+pub owned_le : (owner k : ℕ) (v : ℤ) (m : ℕ) → nat_abs v ≤ m → nat_abs (owned_by owner k v) ≤ m
+owned_le owner k v m h = pick (eqb owner k)
   where
     pick : (b : Bool) → nat_abs (cond b v (pos 0)) ≤ m
     pick true = h

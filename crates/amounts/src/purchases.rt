@@ -3,7 +3,7 @@ ghost use Rattle.std.specs.Prelude.{◌≡◌, ℕ, ◌+◌, ◌-◌, ◌<◌, �
 ghost use Rattle.std.specs.List.{AllByRecursion as All};
 ghost use Rattle.valuation.specs.Valid.{ValidPosition};
 ghost use Rattle.amounts.specs.Amounts.{accounts};
-ghost use Rattle.amounts.specs.Buying.{bought, bought-sum, bought-sums};
+ghost use Rattle.amounts.specs.Buying.{bought, bought_sum, bought_sums};
 
 use dayfile::record::Position;
 use valuation::terms::is_bought;
@@ -45,7 +45,7 @@ fn add_purchases(positions: &[Position], hour: u8, weights: &mut [u64])
     requires valid { All ValidPosition positions.now }
     requires listed { All (λ x. (1 ≤ x.account) × (x.account ≤ length weights.old)) positions.now }
     requires clear { (k : ℕ) → k < length weights.old → slice_index weights.old k ≡ 0 }
-    ensures { (k : ℕ) → k < length weights.new → slice_index weights.new k ≡ bought-sum hour (k + 1) positions.now }
+    ensures { (k : ℕ) → k < length weights.new → slice_index weights.new k ≡ bought_sum hour (k + 1) positions.now }
 {
     for x in positions {
         add_to(weights, x.account, bought_in(hour, x));
@@ -57,7 +57,7 @@ pub fn put_purchases(positions: &[Position], hour: u8, weights: &mut [u64])
     requires few { length positions.now ≤ 1000 }
     requires valid { All ValidPosition positions.now }
     requires listed { All (λ x. (1 ≤ x.account) × (x.account ≤ length weights.old)) positions.now }
-    ensures { weights.new ≡ bought-sums hour (length weights.old) positions.now }
+    ensures { weights.new ≡ bought_sums hour (length weights.old) positions.now }
 {
     clear(weights);
     add_purchases(positions, hour, weights);

@@ -1,7 +1,7 @@
 // What a record adds to the amounts of an hour: its term where it is of the hour, and 0 where not.
 ghost use Rattle.std.specs.Prelude.{pos, neg_ℤ, if◌then◌else◌, nat_eq};
 ghost use Rattle.std.specs.List.{AllByRecursion as All};
-ghost use Rattle.valuation.specs.Terms.{exchange-term, imbalance-term, imbalance-value, position-term, reserve-term};
+ghost use Rattle.valuation.specs.Terms.{exchange_term, imbalance_term, imbalance_value, position_term, reserve_term};
 ghost use Rattle.valuation.specs.Valid.{ValidInterconnection, ValidPosition, ValidPrice, ValidReserve};
 
 use crate::sums::Term;
@@ -21,7 +21,7 @@ pub struct EnergyOf<'a> {
 }
 
 impl<'a> Term<Position> for EnergyOf<'a> {
-    ghost adds = { λ s x. (if nat_eq x.hour s.hour then position-term s.prices.now.prices.now s.market x else pos 0) };
+    ghost adds = { λ s x. (if nat_eq x.hour s.hour then position_term s.prices.now.prices.now s.market x else pos 0) };
 
     ghost valid = { λ s x. All ValidPrice s.prices.now.prices.now × ValidPosition x };
 
@@ -42,7 +42,7 @@ pub struct ReserveOf {
 }
 
 impl Term<Reserve> for ReserveOf {
-    ghost adds = { λ s x. (if nat_eq x.hour s.hour then reserve-term s.market x else pos 0) };
+    ghost adds = { λ s x. (if nat_eq x.hour s.hour then reserve_term s.market x else pos 0) };
 
     ghost valid = { λ s x. ValidReserve x };
 
@@ -64,7 +64,7 @@ pub struct ExchangeOf<'a> {
 }
 
 impl<'a> Term<Interconnection> for ExchangeOf<'a> {
-    ghost adds = { λ s x. (if nat_eq x.hour s.hour then exchange-term s.prices.now.prices.now s.market x else pos 0) };
+    ghost adds = { λ s x. (if nat_eq x.hour s.hour then exchange_term s.prices.now.prices.now s.market x else pos 0) };
 
     ghost valid = { λ s x. All ValidPrice s.prices.now.prices.now × ValidInterconnection x };
 
@@ -85,7 +85,7 @@ pub struct ImbalanceValueOf<'a> {
 }
 
 impl<'a> Term<Interconnection> for ImbalanceValueOf<'a> {
-    ghost adds = { λ s x. (if nat_eq x.hour s.hour then imbalance-value s.prices.now.prices.now x else pos 0) };
+    ghost adds = { λ s x. (if nat_eq x.hour s.hour then imbalance_value s.prices.now.prices.now x else pos 0) };
 
     ghost valid = { λ s x. All ValidPrice s.prices.now.prices.now × ValidInterconnection x };
 
@@ -105,7 +105,7 @@ pub struct ImbalanceOf {
 }
 
 impl Term<Interconnection> for ImbalanceOf {
-    ghost adds = { λ s x. neg_ℤ (if nat_eq x.hour s.hour then imbalance-term x else pos 0) };
+    ghost adds = { λ s x. neg_ℤ (if nat_eq x.hour s.hour then imbalance_term x else pos 0) };
 
     ghost valid = { λ s x. ValidInterconnection x };
 

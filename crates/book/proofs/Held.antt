@@ -18,7 +18,7 @@ alike : {h h' : Heading} {ps ps' : List Price} {qs qs' : List Position} {is is' 
     → gathered h ps qs is rs fs gs ≡ gathered h' ps' qs' is' rs' fs' gs'
 alike a b c d e f g = cc
 
-pub same-records : (x y : Records) → x.heading ≡ y.heading → x.prices ≡ y.prices → x.positions ≡ y.positions
+pub same_records : (x y : Records) → x.heading ≡ y.heading → x.prices ≡ y.prices → x.positions ≡ y.positions
     → x.interconnections ≡ y.interconnections → x.reserves ≡ y.reserves → x.failures ≡ y.failures → x.fines ≡ y.fines → x ≡ y
 unfolding gathered
-same-records x y a b c d e f g = alike a b c d e f g
+same_records x y a b c d e f g = alike a b c d e f g

@@ -1,6 +1,6 @@
 -- What a book holds, and what the calls make of it.
 use Rattle.std.specs.Prelude.{ℕ, ◌+◌, List, [], ◌∷◌, ◌++◌, length, Some, None, Ok, Err, vec_items, Option, Result}
-use Rattle.faults.specs.Places.{fault-of}
+use Rattle.faults.specs.Places.{fault_of}
 use Rattle.faults.specs.declared.fault.Fault.{Fault}
 use Rattle.faults.specs.declared.fault.Place.{Place}
 use Rattle.faults.specs.declared.refusal.Refusal.{Refusal}
@@ -8,9 +8,9 @@ use Rattle.dayfile.specs.Records.{Records}
 use Rattle.dayfile.specs.declared.heading.Heading.{Heading}
 use Rattle.dayfile.specs.declared.record.Record.{Record}
 use Rattle.dayfile.specs.declared.record.Record.TheVariants.{Price, Position, Interconnection, Reserve, Failure, Fine}
-use Rattle.decoding.specs.Decoded.{and_then, decoded-record, place_of}
-use Rattle.rows.specs.Kinds.{price-terms, position-terms, interconnection-terms, reserve-terms, failure-terms, fine-terms}
-use Rattle.rows.specs.Tables.{row-refusal}
+use Rattle.decoding.specs.Decoded.{and_then, decoded_record, place_of}
+use Rattle.rows.specs.Kinds.{price_terms, position_terms, interconnection_terms, reserve_terms, failure_terms, fine_terms}
+use Rattle.rows.specs.Tables.{row_refusal}
 use Rattle.book.specs.declared.book.Book.{Book}
 use Rattle.book.specs.declared.counts.Counts.{Counts}
 
@@ -26,8 +26,8 @@ held book = record {
 }
 
 -- a heading, and no record of any kind
-abbrev pub no-records : Heading → Records
-no-records heading = record {
+abbrev pub no_records : Heading → Records
+no_records heading = record {
   heading = heading;
   prices = [];
   positions = [];
@@ -38,8 +38,8 @@ no-records heading = record {
 }
 
 -- what a new book has for a heading: 2016-01-01, 24 hours, one account, one node
-abbrev pub new-heading : Heading
-new-heading = record { year = 2016; month = 1; day = 1; hours = 24; accounts = 1; nodes = 1; interconnections = 0; real = tt }
+abbrev pub new_heading : Heading
+new_heading = record { year = 2016; month = 1; day = 1; hours = 24; accounts = 1; nodes = 1; interconnections = 0; real = tt }
 
 -- how many records of each kind there are
 abbrev pub counts_of : Records → Counts
@@ -53,37 +53,37 @@ counts_of b = record {
 }
 
 -- and of all kinds together
-abbrev pub record-count : Records → ℕ
-record-count b =
+abbrev pub record_count : Records → ℕ
+record_count b =
     length b.prices + (length b.positions + (length b.interconnections
     + (length b.reserves + (length b.failures + length b.fines))))
 
 -- why a record cannot be entered, if so
-abbrev pub record-refusal : Records → Record → Option Refusal
-record-refusal b (Price p) = row-refusal price-terms b.heading b.prices p
-record-refusal b (Position p) = row-refusal position-terms b.heading b.positions p
-record-refusal b (Interconnection p) = row-refusal interconnection-terms b.heading b.interconnections p
-record-refusal b (Reserve p) = row-refusal reserve-terms b.heading b.reserves p
-record-refusal b (Failure p) = row-refusal failure-terms b.heading b.failures p
-record-refusal b (Fine p) = row-refusal fine-terms b.heading b.fines p
+abbrev pub record_refusal : Records → Record → Option Refusal
+record_refusal b (Price p) = row_refusal price_terms b.heading b.prices p
+record_refusal b (Position p) = row_refusal position_terms b.heading b.positions p
+record_refusal b (Interconnection p) = row_refusal interconnection_terms b.heading b.interconnections p
+record_refusal b (Reserve p) = row_refusal reserve_terms b.heading b.reserves p
+record_refusal b (Failure p) = row_refusal failure_terms b.heading b.failures p
+record_refusal b (Fine p) = row_refusal fine_terms b.heading b.fines p
 
 -- the records with one more, the last of its kind
-abbrev pub with-record : Records → Record → Records
-with-record b (Price p) = record { heading = b.heading; prices = b.prices ++ p ∷ []; positions = b.positions; interconnections = b.interconnections; reserves = b.reserves; failures = b.failures; fines = b.fines }
-with-record b (Position p) = record { heading = b.heading; prices = b.prices; positions = b.positions ++ p ∷ []; interconnections = b.interconnections; reserves = b.reserves; failures = b.failures; fines = b.fines }
-with-record b (Interconnection p) = record { heading = b.heading; prices = b.prices; positions = b.positions; interconnections = b.interconnections ++ p ∷ []; reserves = b.reserves; failures = b.failures; fines = b.fines }
-with-record b (Reserve p) = record { heading = b.heading; prices = b.prices; positions = b.positions; interconnections = b.interconnections; reserves = b.reserves ++ p ∷ []; failures = b.failures; fines = b.fines }
-with-record b (Failure p) = record { heading = b.heading; prices = b.prices; positions = b.positions; interconnections = b.interconnections; reserves = b.reserves; failures = b.failures ++ p ∷ []; fines = b.fines }
-with-record b (Fine p) = record { heading = b.heading; prices = b.prices; positions = b.positions; interconnections = b.interconnections; reserves = b.reserves; failures = b.failures; fines = b.fines ++ p ∷ [] }
+abbrev pub with_record : Records → Record → Records
+with_record b (Price p) = record { heading = b.heading; prices = b.prices ++ p ∷ []; positions = b.positions; interconnections = b.interconnections; reserves = b.reserves; failures = b.failures; fines = b.fines }
+with_record b (Position p) = record { heading = b.heading; prices = b.prices; positions = b.positions ++ p ∷ []; interconnections = b.interconnections; reserves = b.reserves; failures = b.failures; fines = b.fines }
+with_record b (Interconnection p) = record { heading = b.heading; prices = b.prices; positions = b.positions; interconnections = b.interconnections ++ p ∷ []; reserves = b.reserves; failures = b.failures; fines = b.fines }
+with_record b (Reserve p) = record { heading = b.heading; prices = b.prices; positions = b.positions; interconnections = b.interconnections; reserves = b.reserves ++ p ∷ []; failures = b.failures; fines = b.fines }
+with_record b (Failure p) = record { heading = b.heading; prices = b.prices; positions = b.positions; interconnections = b.interconnections; reserves = b.reserves; failures = b.failures ++ p ∷ []; fines = b.fines }
+with_record b (Fine p) = record { heading = b.heading; prices = b.prices; positions = b.positions; interconnections = b.interconnections; reserves = b.reserves; failures = b.failures; fines = b.fines ++ p ∷ [] }
 
 -- a value for which a reason was looked for: the value where there is none, or the fault at its place
 abbrev pub unless : {X : Type 0} → Option Refusal → Place → X → Result X Fault
 unless None place x = Ok x
-unless (Some reason) place x = Err (fault-of reason place)
+unless (Some reason) place x = Err (fault_of reason place)
 
 -- the record if it can be entered, or why not
 abbrev pub admission : Records → Record → Result Record Fault
-admission b x = unless (record-refusal b x) (place_of x) x
+admission b x = unless (record_refusal b x) (place_of x) x
 
 -- what a call answers that found this
 abbrev pub answer : {X : Type 0} → Result X Fault → Result (Unit {0}) Fault
@@ -92,14 +92,14 @@ answer (Err f) = Err f
 
 -- the record that the bytes say if it can be entered, or the first fault
 abbrev pub admitted : Records → List ℕ → Result Record Fault
-admitted b bytes = and_then (decoded-record bytes) (admission b)
+admitted b bytes = and_then (decoded_record bytes) (admission b)
 
 -- the records after a record was entered or refused
 abbrev pub entered : Records → Result Record Fault → Records
-entered b (Ok x) = with-record b x
+entered b (Ok x) = with_record b x
 entered b (Err f) = b
 
 -- the records after a heading was accepted or refused
 abbrev pub opened : Records → Result Heading Fault → Records
-opened b (Ok heading) = no-records heading
+opened b (Ok heading) = no_records heading
 opened b (Err f) = b

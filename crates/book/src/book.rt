@@ -1,6 +1,6 @@
 // The memory that a day's records are kept in.
 ghost use Rattle.std.specs.Prelude.{◌≤◌, vec_capacity};
-ghost use Rattle.rows.specs.Kinds.{failure-room, fine-room, interconnection-room, position-room, price-room, reserve-room};
+ghost use Rattle.rows.specs.Kinds.{failure_room, fine_room, interconnection_room, position_room, price_room, reserve_room};
 
 use dayfile::heading::Heading;
 use dayfile::record::{Failure, Fine, Interconnection, Position, Price, Reserve};
@@ -16,10 +16,10 @@ pub struct Book {
     pub reserves: Vec<Reserve>,
     pub failures: Vec<Failure>,
     pub fines: Vec<Fine>,
-    ghost prices_fit: { price-room ≤ vec_capacity prices },
-    ghost positions_fit: { position-room ≤ vec_capacity positions },
-    ghost interconnections_fit: { interconnection-room ≤ vec_capacity interconnections },
-    ghost reserves_fit: { reserve-room ≤ vec_capacity reserves },
-    ghost failures_fit: { failure-room ≤ vec_capacity failures },
-    ghost fines_fit: { fine-room ≤ vec_capacity fines },
+    ghost prices_fit: { price_room ≤ vec_capacity prices },
+    ghost positions_fit: { position_room ≤ vec_capacity positions },
+    ghost interconnections_fit: { interconnection_room ≤ vec_capacity interconnections },
+    ghost reserves_fit: { reserve_room ≤ vec_capacity reserves },
+    ghost failures_fit: { failure_room ≤ vec_capacity failures },
+    ghost fines_fit: { fine_room ≤ vec_capacity fines },
 }

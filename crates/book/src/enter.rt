@@ -1,7 +1,7 @@
 // Making a book, and entering records into it.
 ghost use Rattle.std.specs.Prelude.{◌≡◌, IfOk, None};
-ghost use Rattle.decoding.specs.Decoded.{decoded-heading};
-ghost use Rattle.book.specs.Books.{admission, admitted, answer, entered, held, new-heading, no-records, opened, record-refusal, with-record};
+ghost use Rattle.decoding.specs.Decoded.{decoded_heading};
+ghost use Rattle.book.specs.Books.{admission, admitted, answer, entered, held, new_heading, no_records, opened, record_refusal, with_record};
 
 use crate::book::Book;
 use dayfile::heading::Heading;
@@ -17,7 +17,7 @@ use std::alloc::{AllocError, Global};
 
 // What a new book has for a heading.
 fn new_heading() -> Heading
-    ensures { result ≡ new-heading }
+    ensures { result ≡ new_heading }
 {
     Heading {
         year: 2016,
@@ -33,13 +33,13 @@ fn new_heading() -> Heading
 impl Book {
     // An empty book. This is the only call that asks for memory.
     pub fn new(heap: Global) -> Result<Book, AllocError>
-        ensures { IfOk result (λ book. held book ≡ no-records new-heading) }
+        ensures { IfOk result (λ book. held book ≡ no_records new_heading) }
     {
         Book::with_heading(heap, new_heading())
     }
 
     fn with_heading(heap: Global, heading: Heading) -> Result<Book, AllocError>
-        ensures { IfOk result (λ book. held book ≡ no-records heading) }
+        ensures { IfOk result (λ book. held book ≡ no_records heading) }
     {
         let prices = Vec::with_capacity(heap, PRICE_ROOM)?;
         let positions = Vec::with_capacity(heap, POSITION_ROOM)?;
@@ -60,7 +60,7 @@ impl Book {
 
     // Another heading, and no record of any kind.
     pub fn clear(&mut self, heading: Heading)
-        ensures { held self.new ≡ no-records heading }
+        ensures { held self.new ≡ no_records heading }
     {
         self.heading = heading;
         self.prices.clear();
@@ -73,7 +73,7 @@ impl Book {
 
     // Why the record cannot be entered, if so.
     pub fn record_refusal(&self, item: &Record) -> Option<Refusal>
-        ensures { result ≡ record-refusal (held self.now) item.now }
+        ensures { result ≡ record_refusal (held self.now) item.now }
     {
         let heading = &self.heading;
         match item {
@@ -92,8 +92,8 @@ impl Book {
 
     // Adds a record that is not refused at the end of its table. The room is there: nothing is allocated.
     fn add(&mut self, item: Record)
-        requires { record-refusal (held self.old) item ≡ None }
-        ensures { held self.new ≡ with-record (held self.old) item }
+        requires { record_refusal (held self.old) item ≡ None }
+        ensures { held self.new ≡ with_record (held self.old) item }
     {
         match item {
             Record::Price(p) => self.prices.push_reserved(p),
@@ -119,8 +119,8 @@ impl Book {
 
     // Begins a day with the heading that the bytes say, and no record; or leaves all as it is.
     pub fn open(&mut self, bytes: &[u8]) -> Result<(), Fault>
-        ensures value { result ≡ answer (decoded-heading bytes.now) }
-        ensures after { held self.new ≡ opened (held self.old) (decoded-heading bytes.now) }
+        ensures value { result ≡ answer (decoded_heading bytes.now) }
+        ensures after { held self.new ≡ opened (held self.old) (decoded_heading bytes.now) }
     {
         match decode_heading(bytes) {
             Ok(heading) => {

@@ -1,7 +1,7 @@
 // Whether a book could have been entered as it stands.
 ghost use Rattle.std.specs.Prelude.{◌≡◌};
-ghost use Rattle.book.specs.Books.{counts_of, held, record-count};
-ghost use Rattle.book.specs.Soundness.{Day-tells-heading-and-counts, Entering-keeps-sound, Opened-is-sound, Sound-is-of-its-day, Sound-with-record, records-of-day, same-counts, sound-records};
+ghost use Rattle.book.specs.Books.{counts_of, held, record_count};
+ghost use Rattle.book.specs.Soundness.{DayTellsHeadingAndCounts, EnteringKeepsSound, OpenedIsSound, SoundIsOfItsDay, SoundWithRecord, records_of_day, same_counts, sound_records};
 
 use crate::book::Book;
 use crate::counts::Counts;
@@ -11,7 +11,7 @@ use rows::table::are_sound;
 
 impl Counts {
     fn is_same(&self, other: &Counts) -> bool
-        ensures { result ≡ same-counts self.now other.now }
+        ensures { result ≡ same_counts self.now other.now }
     {
         self.prices == other.prices
             && self.positions == other.positions
@@ -39,7 +39,7 @@ impl Book {
 
     // How many records of all kinds there are: a number wide enough for any book.
     pub fn record_count(&self) -> u128
-        ensures { result ≡ record-count (held self.now) }
+        ensures { result ≡ record_count (held self.now) }
     {
         let counts = self.counts();
         counts.prices as u128
@@ -50,7 +50,7 @@ impl Book {
 
     // Could these records have been entered, kind by kind, in this order?
     pub fn is_sound(&self) -> bool
-        ensures { result ≡ sound-records (held self.now) }
+        ensures { result ≡ sound_records (held self.now) }
     {
         are_sound(&self.heading, self.prices.as_slice())
             && are_sound(&self.heading, self.positions.as_slice())
@@ -62,7 +62,7 @@ impl Book {
 
     // Is this a sound book with this heading and these counts?
     pub fn is_of_day(&self, heading: &Heading, counts: &Counts) -> bool
-        ensures { result ≡ records-of-day heading.now counts.now (held self.now) }
+        ensures { result ≡ records_of_day heading.now counts.now (held self.now) }
     {
         same_heading(*heading, self.heading) && counts.is_same(&self.counts()) && self.is_sound()
     }
@@ -70,11 +70,11 @@ impl Book {
 
 // What keeps a book sound.
 pub fn soundness_stands() -> u8
-    ensures opened { Opened-is-sound }
-    ensures entered { Entering-keeps-sound }
-    ensures exactly { Sound-with-record }
-    ensures own { Sound-is-of-its-day }
-    ensures told { Day-tells-heading-and-counts }
+    ensures opened { OpenedIsSound }
+    ensures entered { EnteringKeepsSound }
+    ensures exactly { SoundWithRecord }
+    ensures own { SoundIsOfItsDay }
+    ensures told { DayTellsHeadingAndCounts }
 {
     0
 }

@@ -1,9 +1,9 @@
 // Prices of a node in an hour, and the records that lack one.
 ghost use Rattle.std.specs.Prelude.{◌≡◌, ◌<◌, length, IfSome};
 ghost use Rattle.faults.specs.declared.fault.Place.{Place};
-ghost use Rattle.rows.specs.Tables.{first-place};
+ghost use Rattle.rows.specs.Tables.{first_place};
 ghost use Rattle.book.specs.Books.{held};
-ghost use Rattle.closing.specs.Prices.{first-unpriced, first-unpriced-among, has-price, interconnection-place, is-price-of, position-place};
+ghost use Rattle.closing.specs.Prices.{first_unpriced, first_unpriced_among, has_price, interconnection_place, is_price_of, position_place};
 
 use book::book::Book;
 use dayfile::record::{Interconnection, Position, Price, Record};
@@ -13,7 +13,7 @@ use rows::table::find;
 
 // Where the price of the node in the hour stands.
 pub fn find_price(prices: &[Price], node: u8, hour: u8) -> Option<usize>
-    ensures value { result ≡ first-place (is-price-of node hour) prices.now }
+    ensures value { result ≡ first_place (is_price_of node hour) prices.now }
     ensures within { IfSome result (λ i. i < length prices.now) }
 {
     let key = Price {
@@ -26,7 +26,7 @@ pub fn find_price(prices: &[Price], node: u8, hour: u8) -> Option<usize>
 }
 
 fn is_priced(prices: &[Price], node: u8, hour: u8) -> bool
-    ensures { result ≡ has-price prices.now node hour }
+    ensures { result ≡ has_price prices.now node hour }
 {
     find_price(prices, node, hour).is_some()
 }
@@ -40,7 +40,7 @@ trait Priced {
 }
 
 impl Priced for Position {
-    ghost place = { position-place };
+    ghost place = { position_place };
 
     fn place(&self) -> Place {
         place_of(&Record::Position(*self))
@@ -48,7 +48,7 @@ impl Priced for Position {
 }
 
 impl Priced for Interconnection {
-    ghost place = { interconnection-place };
+    ghost place = { interconnection_place };
 
     fn place(&self) -> Place {
         place_of(&Record::Interconnection(*self))
@@ -57,7 +57,7 @@ impl Priced for Interconnection {
 
 // The place of the first of these whose node and hour have no price.
 fn first_unpriced_among<T: Priced>(prices: &[Price], rows: &[T]) -> Option<Place>
-    ensures { result ≡ first-unpriced-among place prices.now rows.now }
+    ensures { result ≡ first_unpriced_among place prices.now rows.now }
 {
     for row in rows {
         let place = row.place();
@@ -70,7 +70,7 @@ fn first_unpriced_among<T: Priced>(prices: &[Price], rows: &[T]) -> Option<Place
 
 // The place of the first position without a price, or else of the first interconnection record without one.
 pub fn first_unpriced(book: &Book) -> Option<Place>
-    ensures { result ≡ first-unpriced (held book.now) }
+    ensures { result ≡ first_unpriced (held book.now) }
 {
     let prices = book.prices.as_slice();
     match first_unpriced_among(prices, book.positions.as_slice()) {

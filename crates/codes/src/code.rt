@@ -1,6 +1,6 @@
 // The codes under which amounts are settled.
 ghost use Rattle.std.specs.Prelude.{◌≡◌, ◌<◌};
-ghost use Rattle.codes.specs.Codes.{basis-number, code_at, code-count, code-index, code-number, code_of, kind-number, row_of};
+ghost use Rattle.codes.specs.Codes.{basis_number, code_at, code_count, code_index, code_number, code_of, kind_number, row_of};
 
 // A letter and a digit: A is the day-ahead settlement, B the real-time settlement, F everything else.
 #[derive(Clone, Copy)]
@@ -153,7 +153,7 @@ pub const CODES: [CodeRow; CODE_COUNT] = [
 
 // The code at a place of the table of codes.
 pub(crate) fn code_in(index: usize) -> Code
-    requires { index < code-count }
+    requires { index < code_count }
     ensures { result ≡ code_at index }
 {
     CODES[index].code
@@ -162,15 +162,15 @@ pub(crate) fn code_in(index: usize) -> Code
 impl Code {
     // The place in the table of codes.
     pub fn index(self) -> usize
-        ensures value { result ≡ code-index self }
-        ensures below { result < code-count }
+        ensures value { result ≡ code_index self }
+        ensures below { result < code_count }
     {
         self as usize
     }
 
     // Codes are numbered in their order, from 1.
     pub fn number(self) -> u8
-        ensures { result ≡ code-number self }
+        ensures { result ≡ code_number self }
     {
         self as u8 + 1
     }
@@ -196,7 +196,7 @@ impl Code {
 
 impl PartyKind {
     pub fn number(self) -> u8
-        ensures { result ≡ kind-number self }
+        ensures { result ≡ kind_number self }
     {
         match self {
             PartyKind::Account => 1,
@@ -209,7 +209,7 @@ impl PartyKind {
 
 impl Basis {
     pub fn number(self) -> u8
-        ensures { result ≡ basis-number self }
+        ensures { result ≡ basis_number self }
     {
         match self {
             Basis::Own => 0,

@@ -1,6 +1,6 @@
 // The parties that amounts are settled with, by number.
 ghost use Rattle.std.specs.Prelude.{◌≡◌, ◌<◌, IfSome, slice_index};
-ghost use Rattle.codes.specs.Parties.{party-at, party-count, party-numbers, party-place, place-by-kind};
+ghost use Rattle.codes.specs.Parties.{party_at, party_count, party_numbers, party_place, place_by_kind};
 
 // Accounts are the parties 1 to 32.
 pub const ACCOUNTS: usize = 32;
@@ -29,15 +29,15 @@ pub const PARTIES: [u8; PARTY_COUNT] = [
 
 // The number of the party at a place of that order, of which there are so many.
 pub(crate) fn party_in(place: usize) -> u8
-    requires { place < party-count }
-    ensures { result ≡ slice_index party-numbers place }
+    requires { place < party_count }
+    ensures { result ≡ slice_index party_numbers place }
 {
     PARTIES[place]
 }
 
 // The number of the party at a place of that order, if there is one.
 pub fn party_at(place: usize) -> Option<u8>
-    ensures { result ≡ party-at place }
+    ensures { result ≡ party_at place }
 {
     if place < PARTY_COUNT {
         Some(party_in(place))
@@ -48,7 +48,7 @@ pub fn party_at(place: usize) -> Option<u8>
 
 // The place, reckoned from how many parties of each kind there are.
 fn place_by_kind(party: u8) -> Option<usize>
-    ensures { result ≡ place-by-kind party }
+    ensures { result ≡ place_by_kind party }
 {
     if party >= 1 && party <= LAST_ACCOUNT {
         Some(party as usize - 1)
@@ -65,8 +65,8 @@ fn place_by_kind(party: u8) -> Option<usize>
 
 // The place of the party with this number, if there is one.
 pub fn party_place(party: u8) -> Option<usize>
-    ensures value { result ≡ party-place party }
-    ensures within { IfSome result (λ i. i < party-count) }
+    ensures value { result ≡ party_place party }
+    ensures within { IfSome result (λ i. i < party_count) }
 {
     place_by_kind(party)
 }

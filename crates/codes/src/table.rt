@@ -1,7 +1,7 @@
 // The table of amounts, by code and party.
 ghost use Rattle.std.specs.Prelude.{◌≡◌};
-ghost use Rattle.codes.specs.Cells.{Put, cell, cell_at, empty-cells};
-ghost use Rattle.codes.specs.Laws.{Numbers-tell-codes, Places-tell-cells, Places-tell-parties};
+ghost use Rattle.codes.specs.Cells.{Put, cell, cell_at, empty_cells};
+ghost use Rattle.codes.specs.Laws.{NumbersTellCodes, PlacesTellCells, PlacesTellParties};
 
 use crate::code::{CODE_COUNT, Code, code_in};
 use crate::party::{PARTY_COUNT, party_in, party_place};
@@ -26,7 +26,7 @@ pub struct TableCell {
 impl Table {
     // A table of zeros.
     pub fn new() -> Table
-        ensures { result.cells ≡ empty-cells }
+        ensures { result.cells ≡ empty_cells }
     {
         Table { cells: [0; CELLS] }
     }
@@ -67,7 +67,7 @@ impl Table {
 
     // 0 in every cell.
     pub fn clear(&mut self)
-        ensures { self.new.cells ≡ empty-cells }
+        ensures { self.new.cells ≡ empty_cells }
     {
         self.cells = [0; CELLS];
     }
@@ -75,9 +75,9 @@ impl Table {
 
 // Codes, parties and cells are told by their numbers and places.
 pub fn places_stand() -> u8
-    ensures codes { Numbers-tell-codes }
-    ensures parties { Places-tell-parties }
-    ensures cells { Places-tell-cells }
+    ensures codes { NumbersTellCodes }
+    ensures parties { PlacesTellParties }
+    ensures cells { PlacesTellCells }
 {
     0
 }

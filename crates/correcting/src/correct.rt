@@ -1,9 +1,9 @@
 // Finding a position, and putting another reading in the place of the one it has.
 ghost use Rattle.std.specs.Prelude.{◌≡◌, ◌<◌, length, is_some, IfSome};
-ghost use Rattle.rows.specs.Tables.{first-place};
+ghost use Rattle.rows.specs.Tables.{first_place};
 ghost use Rattle.book.specs.Books.{answer, held};
-ghost use Rattle.correcting.specs.Corrections.{Correcting-keeps-sound};
-ghost use Rattle.correcting.specs.Readings.{corrected, correction, correction-refusal, is-position-of, read-position, reading-in-range, reading-listed, reading-place, reading-refusal, reread-at, with-reading};
+ghost use Rattle.correcting.specs.Corrections.{CorrectingKeepsSound};
+ghost use Rattle.correcting.specs.Readings.{corrected, correction, correction_refusal, is_position_of, read_position, reading_in_range, reading_listed, reading_place, reading_refusal, reread_at, with_reading};
 
 use crate::reading::Reading;
 use book::book::Book;
@@ -23,7 +23,7 @@ pub fn find_position(
     hour: u8,
     class: Class,
 ) -> Option<usize>
-    ensures value { result ≡ first-place (is-position-of account node hour class) positions.now }
+    ensures value { result ≡ first_place (is_position_of account node hour class) positions.now }
     ensures within { IfSome result (λ i. i < length positions.now) }
 {
     let key = Position {
@@ -39,7 +39,7 @@ pub fn find_position(
 
 // Where the position stands that the reading is of; none where no class has the reading's number.
 fn find_read(positions: &[Position], reading: Reading) -> Option<usize>
-    ensures value { result ≡ read-position positions.now reading }
+    ensures value { result ≡ read_position positions.now reading }
     ensures within { IfSome result (λ i. i < length positions.now) }
 {
     match Class::from_number(reading.class) {
@@ -56,8 +56,8 @@ fn find_read(positions: &[Position], reading: Reading) -> Option<usize>
 
 // Puts the reading into its position, if there is one, and says whether there was. Every other position stays as it is.
 pub fn replace_reading(positions: &mut [Position], reading: Reading) -> bool
-    ensures value { result ≡ is_some (read-position positions.old reading) }
-    ensures after { positions.new ≡ reread-at positions.old (read-position positions.old reading) reading.real_time }
+    ensures value { result ≡ is_some (read_position positions.old reading) }
+    ensures after { positions.new ≡ reread_at positions.old (read_position positions.old reading) reading.real_time }
 {
     match find_read(positions, reading) {
         Some(i) => {
@@ -70,13 +70,13 @@ pub fn replace_reading(positions: &mut [Position], reading: Reading) -> bool
 
 impl Reading {
     fn place(self) -> Place
-        ensures { result ≡ reading-place self }
+        ensures { result ≡ reading_place self }
     {
         Place::new(self.account, self.node, self.hour)
     }
 
     fn is_in_range(self) -> bool
-        ensures { result ≡ reading-in-range self }
+        ensures { result ≡ reading_in_range self }
     {
         self.account >= 1
             && self.node >= 1
@@ -86,14 +86,14 @@ impl Reading {
     }
 
     fn is_listed(self, heading: &Heading) -> bool
-        ensures { result ≡ reading-listed heading.now self }
+        ensures { result ≡ reading_listed heading.now self }
     {
         self.account <= heading.accounts && self.node <= heading.nodes && self.hour <= heading.hours
     }
 
     // What the heading alone has against the reading.
     pub fn refusal_under(self, heading: &Heading) -> Option<Refusal>
-        ensures { result ≡ reading-refusal heading.now self }
+        ensures { result ≡ reading_refusal heading.now self }
     {
         if !self.is_in_range() {
             return Some(Refusal::OutOfRange);
@@ -107,7 +107,7 @@ impl Reading {
 
 // Why the reading cannot be put in the place of the one held, if so.
 pub fn reading_refusal(book: &Book, reading: Reading) -> Option<Refusal>
-    ensures { result ≡ correction-refusal (held book.now) reading }
+    ensures { result ≡ correction_refusal (held book.now) reading }
 {
     if let Some(refusal) = reading.refusal_under(&book.heading) {
         return Some(refusal);
@@ -121,7 +121,7 @@ pub fn reading_refusal(book: &Book, reading: Reading) -> Option<Refusal>
 
 // Puts the reading into its position, if there is one.
 fn put_reading(book: &mut Book, reading: Reading)
-    ensures { held book.new ≡ with-reading (held book.old) reading }
+    ensures { held book.new ≡ with_reading (held book.old) reading }
 {
     let _ = replace_reading(book.positions.as_mut_slice(), reading);
 }
@@ -140,7 +140,7 @@ pub fn correct(book: &mut Book, reading: Reading) -> Result<(), Fault>
 
 // What a correction keeps.
 pub fn corrections_stand() -> u8
-    ensures corrected { Correcting-keeps-sound }
+    ensures corrected { CorrectingKeepsSound }
 {
     0
 }

@@ -1,6 +1,6 @@
 // Hands out the records of a file one by one.
 ghost use Rattle.std.specs.Prelude.{◌≡◌, ◌+◌, ◌<◌, ◌≤◌, length, IfOk, OnOk, ◌==◌};
-ghost use Rattle.cutting.specs.Cuts.{cut_at, first-record, lent, past};
+ghost use Rattle.cutting.specs.Cuts.{cut_at, first_record, lent, past};
 
 use dayfile::mark::Mark;
 use faults::fault::Fault;
@@ -16,7 +16,7 @@ pub struct Reader<'a> {
 
 // The record that the bytes begin with.
 fn first_record(bytes: &[u8]) -> Result<&[u8], Refusal>
-    ensures value { lent result ≡ first-record bytes.now }
+    ensures value { lent result ≡ first_record bytes.now }
     ensures within { IfOk result (λ part. (4 ≤ length part.now) × (length part.now ≤ length bytes.now)) }
 {
     let [first, second, ..] = bytes else {

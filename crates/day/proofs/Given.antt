@@ -9,82 +9,82 @@ use Rattle.faults.specs.declared.refusal.Refusal.TheVariants.{BufferTooShort, Le
 use Rattle.dayfile.specs.Records.{Records}
 use Rattle.dayfile.specs.declared.heading.Heading.{Heading}
 use Rattle.book.specs.Books.{answer, unless}
-use Rattle.correcting.specs.Readings.{correction, correction-refusal, reading-place}
-use Rattle.book.specs.Soundness.{records-of-day, sound-records}
+use Rattle.correcting.specs.Readings.{correction, correction_refusal, reading_place}
+use Rattle.book.specs.Soundness.{records_of_day, sound_records}
 use Rattle.correcting.specs.declared.reading.Reading.{Reading}
-use Rattle.book.proofs.Keeps.{day-tells}
-use Rattle.ledger.specs.Issues.{issue-answer, issue-leaves}
-use Rattle.ledger.specs.Notes.{sound-notes, within-limit}
+use Rattle.book.proofs.Keeps.{day_tells}
+use Rattle.ledger.specs.Issues.{issue_answer, issue_leaves}
+use Rattle.ledger.specs.Notes.{sound_notes, within_limit}
 use Rattle.ledger.specs.declared.note.Note.{Note}
 use Rattle.settlement.specs.Days.{outcome}
-use Rattle.statement.specs.Statements.{statement-answer, statement-leaves, statement-text}
+use Rattle.statement.specs.Statements.{statement_answer, statement_leaves, statement_text}
 use Rattle.text.specs.Written.{written}
-use Rattle.day.specs.Memory.{Memory, sound-memory}
+use Rattle.day.specs.Memory.{Memory, sound_memory}
 use Rattle.day.specs.declared.state.Numbers.{Numbers}
 
 -- the parts of what the test of memory says
 pub record Sound (numbers : Numbers) (issues : ℕ) (m : Memory) : Type 0 where
-  pub records : sound-records m.records ≡ true
-  pub limited : within-limit m.table ≡ true
-  pub notes : sound-notes m.ledger numbers.notes issues ≡ true
+  pub records : sound_records m.records ≡ true
+  pub limited : within_limit m.table ≡ true
+  pub notes : sound_notes m.ledger numbers.notes issues ≡ true
 
-pub is-sound : (numbers : Numbers) (issues : ℕ) (m : Memory) → sound-memory numbers issues m ≡ true → Sound numbers issues m
-is-sound numbers issues m s =
-    let whole = and_parts (records-of-day numbers.heading numbers.counts m.records) _ s in
-    let rest = and_parts (within-limit m.table) _ whole.1 in
+pub is_sound : (numbers : Numbers) (issues : ℕ) (m : Memory) → sound_memory numbers issues m ≡ true → Sound numbers issues m
+is_sound numbers issues m s =
+    let whole = and_parts (records_of_day numbers.heading numbers.counts m.records) _ s in
+    let rest = and_parts (within_limit m.table) _ whole.1 in
     record {
-      records = (day-tells numbers.heading numbers.counts m.records whole.0).2;
+      records = (day_tells numbers.heading numbers.counts m.records whole.0).2;
       limited = rest.0;
       notes = rest.1;
     }
 
 -- a correction gives back the reading that it was given
-pub reread-is : (r : Records) (reading : Reading) → Ok tt ≡ answer (correction r reading) → Ok reading ≡ correction r reading
-reread-is r reading e = go (correction-refusal r reading) refl e
+pub reread_is : (r : Records) (reading : Reading) → Ok tt ≡ answer (correction r reading) → Ok reading ≡ correction r reading
+reread_is r reading e = go (correction_refusal r reading) refl e
   where
-    go : (o : Option Refusal) → correction-refusal r reading ≡ o → Ok tt ≡ answer (unless o (reading-place reading) reading) → Ok reading ≡ correction r reading
+    go : (o : Option Refusal) → correction_refusal r reading ≡ o → Ok tt ≡ answer (unless o (reading_place reading) reading) → Ok reading ≡ correction r reading
     go None p e = rw p refl
     go (Some f) p e = let z : ◌≡◌ {A = ℕ} 0 1 = cc in absurd (omega arith)
 
-pub refused-is : {X : Type 0} (o : Result X Fault) (f : Fault) → Err f ≡ answer o → Err f ≡ o
-refused-is (Ok x) f e = let z : ◌≡◌ {A = ℕ} 0 1 = cc in absurd (omega arith)
-refused-is (Err g) f e = cc
+pub refused_is : {X : Type 0} (o : Result X Fault) (f : Fault) → Err f ≡ answer o → Err f ≡ o
+refused_is (Ok x) f e = let z : ◌≡◌ {A = ℕ} 0 1 = cc in absurd (omega arith)
+refused_is (Err g) f e = cc
 
 -- what is against a call, from its outcome
-pub nothing-against : (o : Option Fault) → Ok tt ≡ outcome o → None ≡ o
-nothing-against None e = refl
-nothing-against (Some f) e = let z : ◌≡◌ {A = ℕ} 0 1 = cc in absurd (omega arith)
+pub nothing_against : (o : Option Fault) → Ok tt ≡ outcome o → None ≡ o
+nothing_against None e = refl
+nothing_against (Some f) e = let z : ◌≡◌ {A = ℕ} 0 1 = cc in absurd (omega arith)
 
-pub something-against : (o : Option Fault) (f : Fault) → Err f ≡ outcome o → Some f ≡ o
-something-against None f e = let z : ◌≡◌ {A = ℕ} 0 1 = cc in absurd (omega arith)
-something-against (Some g) f e = cc
+pub something_against : (o : Option Fault) (f : Fault) → Err f ≡ outcome o → Some f ≡ o
+something_against None f e = let z : ◌≡◌ {A = ℕ} 0 1 = cc in absurd (omega arith)
+something_against (Some g) f e = cc
 
 -- an issue answers how many notes it added, or leaves the ledger
-issue-by : (b : Bool) (count : ℕ) (led new left : List Note) (r : Result ℕ Fault) → leb (count + length new) (length led) ≡ b → r ≡ cond b (Ok (length new)) (Err (plain LedgerFull))
+issue_by : (b : Bool) (count : ℕ) (led new left : List Note) (r : Result ℕ Fault) → leb (count + length new) (length led) ≡ b → r ≡ cond b (Ok (length new)) (Err (plain LedgerFull))
     → left ≡ cond b (written led count new) led → MatchResult r (λ k. k ≡ length new) (λ _. left ≡ led) × IfOk r (λ k. count + k ≤ length led)
-issue-by true count led new left (Ok k) p e l =
+issue_by true count led new left (Ok k) p e l =
     let is : k ≡ length new = cc in
     let fits = leb-true (count + length new) (length led) p in
     (is, omega arith)
-issue-by true count led new left (Err f) p e l = let z : ◌≡◌ {A = ℕ} 0 1 = cc in absurd (omega arith)
-issue-by false count led new left (Ok k) p e l = let z : ◌≡◌ {A = ℕ} 0 1 = cc in absurd (omega arith)
-issue-by false count led new left (Err f) p e l = (l, tt)
+issue_by true count led new left (Err f) p e l = let z : ◌≡◌ {A = ℕ} 0 1 = cc in absurd (omega arith)
+issue_by false count led new left (Ok k) p e l = let z : ◌≡◌ {A = ℕ} 0 1 = cc in absurd (omega arith)
+issue_by false count led new left (Err f) p e l = (l, tt)
 
-pub issue-ends : (count : ℕ) (led new left : List Note) (r : Result ℕ Fault) → r ≡ issue-answer led count new → left ≡ issue-leaves led count new
+pub issue_ends : (count : ℕ) (led new left : List Note) (r : Result ℕ Fault) → r ≡ issue_answer led count new → left ≡ issue_leaves led count new
     → MatchResult r (λ k. k ≡ length new) (λ _. left ≡ led) × IfOk r (λ k. count + k ≤ length led)
-issue-ends count led new left r e l = issue-by (leb (count + length new) (length led)) count led new left r refl e l
+issue_ends count led new left r e l = issue_by (leb (count + length new) (length led)) count led new left r refl e l
 
 -- a statement answers how long its text is, or leaves the buffer
-statement-by : (issued fits : Bool) (text buffer left : List ℕ) (r : Result ℕ Fault) → r ≡ cond issued (ok_or (cond fits (Some (length text)) None) (plain BufferTooShort)) (Err (plain OutOfRange))
+statement_by : (issued fits : Bool) (text buffer left : List ℕ) (r : Result ℕ Fault) → r ≡ cond issued (ok_or (cond fits (Some (length text)) None) (plain BufferTooShort)) (Err (plain OutOfRange))
     → left ≡ cond issued (cond fits (text ++ drop (length text) buffer) buffer) buffer → MatchResult r (λ k. k ≡ length text) (λ _. left ≡ buffer)
-statement-by true true text buffer left (Ok k) e l = cc
-statement-by true true text buffer left (Err f) e l = let z : ◌≡◌ {A = ℕ} 0 1 = cc in absurd (omega arith)
-statement-by true false text buffer left (Ok k) e l = let z : ◌≡◌ {A = ℕ} 0 1 = cc in absurd (omega arith)
-statement-by true false text buffer left (Err f) e l = l
-statement-by false fits text buffer left (Ok k) e l = let z : ◌≡◌ {A = ℕ} 0 1 = cc in absurd (omega arith)
-statement-by false fits text buffer left (Err f) e l = l
+statement_by true true text buffer left (Ok k) e l = cc
+statement_by true true text buffer left (Err f) e l = let z : ◌≡◌ {A = ℕ} 0 1 = cc in absurd (omega arith)
+statement_by true false text buffer left (Ok k) e l = let z : ◌≡◌ {A = ℕ} 0 1 = cc in absurd (omega arith)
+statement_by true false text buffer left (Err f) e l = l
+statement_by false fits text buffer left (Ok k) e l = let z : ◌≡◌ {A = ℕ} 0 1 = cc in absurd (omega arith)
+statement_by false fits text buffer left (Err f) e l = l
 
-pub statement-ends : (heading : Heading) (notes : List Note) (issues number : ℕ) (buffer left : List ℕ) (r : Result ℕ Fault) → r ≡ statement-answer heading notes issues number buffer
-    → left ≡ statement-leaves heading notes issues number buffer → MatchResult r (λ k. k ≡ length (statement-text heading notes number)) (λ _. left ≡ buffer)
-statement-ends heading notes issues number buffer left r e l =
-    statement-by (ltb number issues) (leb (length (statement-text heading notes number)) (length buffer)) (statement-text heading notes number) buffer left r e l
+pub statement_ends : (heading : Heading) (notes : List Note) (issues number : ℕ) (buffer left : List ℕ) (r : Result ℕ Fault) → r ≡ statement_answer heading notes issues number buffer
+    → left ≡ statement_leaves heading notes issues number buffer → MatchResult r (λ k. k ≡ length (statement_text heading notes number)) (λ _. left ≡ buffer)
+statement_ends heading notes issues number buffer left r e l =
+    statement_by (ltb number issues) (leb (length (statement_text heading notes number)) (length buffer)) (statement_text heading notes number) buffer left r e l

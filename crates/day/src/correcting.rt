@@ -2,7 +2,7 @@
 ghost use Rattle.std.specs.Prelude.{◌≡◌};
 ghost use Rattle.book.specs.Books.{held};
 ghost use Rattle.correcting.specs.Readings.{corrected, correction};
-ghost use Rattle.day.specs.Calls.{correct-gives};
+ghost use Rattle.day.specs.Calls.{correct_gives};
 ghost use Rattle.day.specs.Memory.{memory};
 
 use crate::memory::is_sound;
@@ -35,7 +35,7 @@ pub fn correct(
     table: &Table,
     ledger: &[Note],
 ) -> Result<Closed, Refused<Closed>>
-    ensures { (result, memory (held book.new) table.now ledger.now) ≡ correct-gives day (memory (held book.old) table.now ledger.now) reading }
+    ensures { (result, memory (held book.new) table.now ledger.now) ≡ correct_gives day (memory (held book.old) table.now ledger.now) reading }
 {
     let Closed { numbers } = day;
     if !is_sound(&numbers, numbers.issue.number(), book, table, ledger) {

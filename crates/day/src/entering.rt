@@ -1,7 +1,7 @@
 // The calls that bring in a day's records, and end them.
 ghost use Rattle.std.specs.Prelude.{◌≡◌};
 ghost use Rattle.book.specs.Books.{admitted, entered, held};
-ghost use Rattle.day.specs.Calls.{close-gives, enter-gives, with-counts};
+ghost use Rattle.day.specs.Calls.{close_gives, enter_gives, with_counts};
 ghost use Rattle.day.specs.Memory.{memory};
 
 use crate::memory::is_sound;
@@ -18,7 +18,7 @@ use ledger::note::Note;
 
 // The same numbers, with the counts of the book's records.
 fn with_counts(numbers: Numbers, book: &Book) -> Numbers
-    ensures { result ≡ with-counts numbers (held book.now) }
+    ensures { result ≡ with_counts numbers (held book.now) }
 {
     Numbers {
         heading: numbers.heading,
@@ -46,7 +46,7 @@ pub fn enter(
     table: &Table,
     ledger: &[Note],
 ) -> Result<Open, Refused<Open>>
-    ensures { (result, memory (held book.new) table.now ledger.now) ≡ enter-gives day (memory (held book.old) table.now ledger.now) bytes.now }
+    ensures { (result, memory (held book.new) table.now ledger.now) ≡ enter_gives day (memory (held book.old) table.now ledger.now) bytes.now }
 {
     let Open { numbers } = day;
     if !is_sound(&numbers, numbers.issue.number(), book, table, ledger) {
@@ -75,7 +75,7 @@ pub fn close(
     table: &Table,
     ledger: &[Note],
 ) -> Result<Closed, Refused<Open>>
-    ensures { (result, memory (held book.now) table.now ledger.now) ≡ close-gives day (memory (held book.now) table.now ledger.now) bytes.now }
+    ensures { (result, memory (held book.now) table.now ledger.now) ≡ close_gives day (memory (held book.now) table.now ledger.now) bytes.now }
 {
     let Open { numbers } = day;
     if !is_sound(&numbers, numbers.issue.number(), book, table, ledger) {

@@ -1,6 +1,6 @@
 // The four issues that a day may have, as Base 17.2.6 names their statements.
 ghost use Rattle.std.specs.Prelude.{◌≡◌, ◌≤◌};
-ghost use Rattle.day.specs.IssueNumbers.{following, issue-number};
+ghost use Rattle.day.specs.IssueNumbers.{following, issue_number};
 
 #[derive(Clone, Copy)]
 pub enum IssueNumber {
@@ -13,7 +13,7 @@ pub enum IssueNumber {
 impl IssueNumber {
     // 0 to 3.
     pub fn number(self) -> u8
-        ensures value { result ≡ issue-number self }
+        ensures value { result ≡ issue_number self }
         ensures bound { result ≤ 3 }
     {
         match self {

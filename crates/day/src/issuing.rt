@@ -1,11 +1,11 @@
 // The calls that add the notes of a settled day to the ledger, and state them.
 ghost use Rattle.std.specs.Prelude.{◌≡◌, ◌+◌, ◌^◌, ◌<◌, ◌≤◌, true, length, take, IfOk, MatchResult};
 ghost use Rattle.book.specs.Books.{held};
-ghost use Rattle.ledger.specs.Issues.{issue-answer, issue-leaves, new-notes};
-ghost use Rattle.ledger.specs.Notes.{sound-notes, within-limit};
-ghost use Rattle.statement.specs.Statements.{statement-answer, statement-leaves, statement-text};
-ghost use Rattle.day.specs.Calls.{issue-gives, made-before, made-with, statement-gives, with-notes};
-ghost use Rattle.day.specs.IssueNumbers.{issue-number};
+ghost use Rattle.ledger.specs.Issues.{issue_answer, issue_leaves, new_notes};
+ghost use Rattle.ledger.specs.Notes.{sound_notes, within_limit};
+ghost use Rattle.statement.specs.Statements.{statement_answer, statement_leaves, statement_text};
+ghost use Rattle.day.specs.Calls.{issue_gives, made_before, made_with, statement_gives, with_notes};
+ghost use Rattle.day.specs.IssueNumbers.{issue_number};
 ghost use Rattle.day.specs.Memory.{memory};
 
 use crate::memory::passes;
@@ -22,7 +22,7 @@ use statement::issued::statement as put_statement;
 // The same numbers, with so many notes more.
 fn with_notes(numbers: Numbers, added: usize) -> Numbers
     requires { numbers.notes + added < 2 ^ 64 }
-    ensures { result ≡ with-notes numbers added }
+    ensures { result ≡ with_notes numbers added }
 {
     Numbers {
         heading: numbers.heading,
@@ -34,11 +34,11 @@ fn with_notes(numbers: Numbers, added: usize) -> Numbers
 
 // Adds the notes of the day's issue, unless there is too little room. Answers how many these are.
 fn add(numbers: &Numbers, table: &Table, ledger: &mut [Note]) -> Result<usize, Fault>
-    requires limited { within-limit table.now ≡ true }
-    requires notes { sound-notes ledger.old numbers.now.notes (made-before numbers.now) ≡ true }
-    ensures value { result ≡ issue-answer ledger.old numbers.now.notes (new-notes ledger.old numbers.now.notes (issue-number numbers.now.issue) table.now) }
-    ensures after { ledger.new ≡ issue-leaves ledger.old numbers.now.notes (new-notes ledger.old numbers.now.notes (issue-number numbers.now.issue) table.now) }
-    ensures ends { MatchResult result (λ count. count ≡ length (new-notes ledger.old numbers.now.notes (issue-number numbers.now.issue) table.now)) (λ _. ledger.new ≡ ledger.old) }
+    requires limited { within_limit table.now ≡ true }
+    requires notes { sound_notes ledger.old numbers.now.notes (made_before numbers.now) ≡ true }
+    ensures value { result ≡ issue_answer ledger.old numbers.now.notes (new_notes ledger.old numbers.now.notes (issue_number numbers.now.issue) table.now) }
+    ensures after { ledger.new ≡ issue_leaves ledger.old numbers.now.notes (new_notes ledger.old numbers.now.notes (issue_number numbers.now.issue) table.now) }
+    ensures ends { MatchResult result (λ count. count ≡ length (new_notes ledger.old numbers.now.notes (issue_number numbers.now.issue) table.now)) (λ _. ledger.new ≡ ledger.old) }
     ensures room { IfOk result (λ count. numbers.now.notes + count ≤ length ledger.old) }
 {
     add_notes(ledger, numbers.notes, numbers.issue.number(), table)
@@ -51,7 +51,7 @@ pub fn issue(
     table: &Table,
     ledger: &mut [Note],
 ) -> Result<(Issued, usize), Refused<Settled>>
-    ensures { (result, memory (held book.now) table.now ledger.new) ≡ issue-gives day (memory (held book.now) table.now ledger.old) }
+    ensures { (result, memory (held book.now) table.now ledger.new) ≡ issue_gives day (memory (held book.now) table.now ledger.old) }
 {
     let Settled { numbers } = day;
     if !passes(&numbers, numbers.issue.number(), book, table, ledger) {
@@ -77,10 +77,10 @@ pub fn issue(
 
 // Writes the text of an issue, if it was made and the text fits. Answers how long it is.
 fn put(numbers: &Numbers, issue: u8, ledger: &[Note], buffer: &mut [u8]) -> Result<usize, Fault>
-    requires { sound-notes ledger.now numbers.now.notes (made-with numbers.now) ≡ true }
-    ensures value { result ≡ statement-answer numbers.now.heading (take numbers.now.notes ledger.now) (made-with numbers.now) issue buffer.old }
-    ensures after { buffer.new ≡ statement-leaves numbers.now.heading (take numbers.now.notes ledger.now) (made-with numbers.now) issue buffer.old }
-    ensures ends { MatchResult result (λ count. count ≡ length (statement-text numbers.now.heading (take numbers.now.notes ledger.now) issue)) (λ _. buffer.new ≡ buffer.old) }
+    requires { sound_notes ledger.now numbers.now.notes (made_with numbers.now) ≡ true }
+    ensures value { result ≡ statement_answer numbers.now.heading (take numbers.now.notes ledger.now) (made_with numbers.now) issue buffer.old }
+    ensures after { buffer.new ≡ statement_leaves numbers.now.heading (take numbers.now.notes ledger.now) (made_with numbers.now) issue buffer.old }
+    ensures ends { MatchResult result (λ count. count ≡ length (statement_text numbers.now.heading (take numbers.now.notes ledger.now) issue)) (λ _. buffer.new ≡ buffer.old) }
 {
     put_statement(
         &numbers.heading,
@@ -101,7 +101,7 @@ pub fn statement(
     ledger: &[Note],
     buffer: &mut [u8],
 ) -> Result<(Issued, usize), Refused<Issued>>
-    ensures { (result, buffer.new) ≡ statement-gives day (memory (held book.now) table.now ledger.now) issue buffer.old }
+    ensures { (result, buffer.new) ≡ statement_gives day (memory (held book.now) table.now ledger.now) issue buffer.old }
 {
     let Issued { numbers } = day;
     if !passes(&numbers, numbers.issue.number() + 1, book, table, ledger) {

@@ -1,10 +1,10 @@
 // The two calls that begin a day.
 ghost use Rattle.std.specs.Prelude.{◌≡◌};
 ghost use Rattle.book.specs.Books.{held};
-ghost use Rattle.day.specs.Calls.{first-numbers, load-answer, load_gives, open_gives};
-ghost use Rattle.day.specs.Memory.{empty-table, memory};
+ghost use Rattle.day.specs.Calls.{first_numbers, load_answer, load_gives, open_gives};
+ghost use Rattle.day.specs.Memory.{empty_table, memory};
 ghost use Rattle.ledger.specs.Notes.{cleared};
-ghost use Rattle.loading.specs.Loading.{file-records, load-leaves};
+ghost use Rattle.loading.specs.Loading.{file_records, load_leaves};
 
 use crate::issue_number::IssueNumber;
 use crate::state::{Closed, Numbers, Open};
@@ -17,7 +17,7 @@ use loading::load::load as load_book;
 
 // The numbers of a day with the book's records, and no note.
 fn first_numbers(book: &Book) -> Numbers
-    ensures { result ≡ first-numbers (held book.now) }
+    ensures { result ≡ first_numbers (held book.now) }
 {
     Numbers {
         heading: book.heading,
@@ -29,7 +29,7 @@ fn first_numbers(book: &Book) -> Numbers
 
 // Empties the table and the ledger.
 fn empty(table: &mut Table, ledger: &mut [Note])
-    ensures table { table.new ≡ empty-table }
+    ensures table { table.new ≡ empty_table }
     ensures ledger { ledger.new ≡ cleared ledger.old }
 {
     table.clear();
@@ -59,8 +59,8 @@ pub fn open(
 
 // A closed day with the records of a file; or no records, where the file is refused.
 fn load_records(file: &[u8], book: &mut Book) -> Result<Closed, Fault>
-    ensures value { result ≡ load-answer (file-records file.now) }
-    ensures after { held book.new ≡ load-leaves (held book.old) file.now }
+    ensures value { result ≡ load_answer (file_records file.now) }
+    ensures after { held book.new ≡ load_leaves (held book.old) file.now }
 {
     match load_book(book, file) {
         Ok(()) => Ok(Closed {

@@ -1,7 +1,7 @@
 // The call that takes an issued day back, to be corrected and settled again.
 ghost use Rattle.std.specs.Prelude.{◌≡◌};
 ghost use Rattle.book.specs.Books.{held};
-ghost use Rattle.day.specs.Calls.{reopen-gives};
+ghost use Rattle.day.specs.Calls.{reopen_gives};
 ghost use Rattle.day.specs.Memory.{memory};
 
 use crate::issue_number::IssueNumber;
@@ -21,7 +21,7 @@ pub fn reopen(
     table: &Table,
     ledger: &[Note],
 ) -> Result<Closed, Refused<Issued>>
-    ensures { (result, memory (held book.now) table.now ledger.now) ≡ reopen-gives day (memory (held book.now) table.now ledger.now) }
+    ensures { (result, memory (held book.now) table.now ledger.now) ≡ reopen_gives day (memory (held book.now) table.now ledger.now) }
 {
     let Issued { numbers } = day;
     if !is_sound(&numbers, numbers.issue.number() + 1, book, table, ledger) {

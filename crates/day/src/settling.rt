@@ -1,12 +1,12 @@
 // The call that settles a day.
 ghost use Rattle.std.specs.Prelude.{◌≡◌, true, length};
 ghost use Rattle.book.specs.Books.{held};
-ghost use Rattle.book.specs.Soundness.{sound-records};
-ghost use Rattle.codes.specs.Cells.{cell-count};
-ghost use Rattle.settlement.specs.Days.{day-cell, settle-refusal};
-ghost use Rattle.day.specs.Calls.{settle-gives};
+ghost use Rattle.book.specs.Soundness.{sound_records};
+ghost use Rattle.codes.specs.Cells.{cell_count};
+ghost use Rattle.settlement.specs.Days.{day_cell, settle_refusal};
+ghost use Rattle.day.specs.Calls.{settle_gives};
 ghost use Rattle.day.specs.Memory.{memory};
-ghost use Rattle.day.specs.Tables.{filled-with};
+ghost use Rattle.day.specs.Tables.{filled_with};
 
 use crate::memory::passes;
 use crate::refused::Refused;
@@ -21,7 +21,7 @@ use sharing::rule::Sharing;
 
 // How many cells a table has, by its type.
 pub(crate) fn cells_in(table: &Table) -> usize
-    ensures { length table.now.cells ≡ cell-count }
+    ensures { length table.now.cells ≡ cell_count }
 {
     let cells: &[i64] = &table.cells;
     cells.len()
@@ -29,9 +29,9 @@ pub(crate) fn cells_in(table: &Table) -> usize
 
 // Fills the table of the day, or says why not, and leaves it as it was.
 fn fill_day<R: Sharing>(book: &Book, rule: &R, table: &mut Table) -> Option<Fault>
-    requires { sound-records (held book.now) ≡ true }
-    ensures value { result ≡ settle-refusal (held book.now) }
-    ensures after { table.new ≡ filled-with (settle-refusal (held book.now)) table.old (day-cell (R.Sharing.parts rule.now) (held book.now)) }
+    requires { sound_records (held book.now) ≡ true }
+    ensures value { result ≡ settle_refusal (held book.now) }
+    ensures after { table.new ≡ filled_with (settle_refusal (held book.now)) table.old (day_cell (R.Sharing.parts rule.now) (held book.now)) }
 {
     let answer = settle_book(book, rule, table);
     let _ = cells_in(table);
@@ -49,7 +49,7 @@ pub fn settle<R: Sharing>(
     table: &mut Table,
     ledger: &[Note],
 ) -> Result<Settled, Refused<Closed>>
-    ensures { (result, memory (held book.now) table.new ledger.now) ≡ settle-gives (R.Sharing.parts rule.now) day (memory (held book.now) table.old ledger.now) }
+    ensures { (result, memory (held book.now) table.new ledger.now) ≡ settle_gives (R.Sharing.parts rule.now) day (memory (held book.now) table.old ledger.now) }
 {
     let Closed { numbers } = day;
     if !passes(&numbers, numbers.issue.number(), book, table, ledger) {

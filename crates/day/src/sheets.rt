@@ -1,12 +1,12 @@
 // The call that fills a second table with the sheet of an hour.
 ghost use Rattle.std.specs.Prelude.{◌≡◌, ℕ, true};
 ghost use Rattle.book.specs.Books.{held};
-ghost use Rattle.book.specs.Soundness.{sound-records};
-ghost use Rattle.settlement.specs.Days.{sheet-refusal};
+ghost use Rattle.book.specs.Soundness.{sound_records};
+ghost use Rattle.settlement.specs.Days.{sheet_refusal};
 ghost use Rattle.settlement.specs.Sheets.{sheet as sheet-of};
-ghost use Rattle.day.specs.Calls.{made-before, made-with, sheet-gives};
+ghost use Rattle.day.specs.Calls.{made_before, made_with, sheet_gives};
 ghost use Rattle.day.specs.Memory.{memory};
-ghost use Rattle.day.specs.Tables.{filled-with};
+ghost use Rattle.day.specs.Tables.{filled_with};
 ghost use Rattle.day.specs.declared.state.Numbers.{Numbers};
 
 use crate::memory::passes;
@@ -38,7 +38,7 @@ pub trait Tabled {
 impl Tabled for Settled {
     ghost carried = { λ d. d.numbers };
 
-    ghost made = { λ d. made-before d.numbers };
+    ghost made = { λ d. made_before d.numbers };
 
     fn numbers(&self) -> Numbers {
         self.numbers
@@ -52,7 +52,7 @@ impl Tabled for Settled {
 impl Tabled for Issued {
     ghost carried = { λ d. d.numbers };
 
-    ghost made = { λ d. made-with d.numbers };
+    ghost made = { λ d. made_with d.numbers };
 
     fn numbers(&self) -> Numbers {
         self.numbers
@@ -65,9 +65,9 @@ impl Tabled for Issued {
 
 // Fills the page with the sheet of an hour, or says why not, and leaves it as it was.
 fn fill_page<R: Sharing>(book: &Book, hour: u8, rule: &R, page: &mut Table) -> Option<Fault>
-    requires { sound-records (held book.now) ≡ true }
-    ensures value { result ≡ sheet-refusal (held book.now) hour }
-    ensures after { page.new ≡ filled-with (sheet-refusal (held book.now) hour) page.old (sheet-of (R.Sharing.parts rule.now) (held book.now) hour) }
+    requires { sound_records (held book.now) ≡ true }
+    ensures value { result ≡ sheet_refusal (held book.now) hour }
+    ensures after { page.new ≡ filled_with (sheet_refusal (held book.now) hour) page.old (sheet-of (R.Sharing.parts rule.now) (held book.now) hour) }
 {
     let answer = fill_sheet(book, hour, rule, page);
     let _ = cells_in(page);
@@ -87,7 +87,7 @@ pub fn sheet<D: Tabled, R: Sharing>(
     ledger: &[Note],
     page: &mut Table,
 ) -> Result<D, Refused<D>>
-    ensures { (result, page.new) ≡ sheet-gives (R.Sharing.parts rule.now) day (D.Tabled.carried day) (D.Tabled.made day) (memory (held book.now) table.now ledger.now) hour page.old }
+    ensures { (result, page.new) ≡ sheet_gives (R.Sharing.parts rule.now) day (D.Tabled.carried day) (D.Tabled.made day) (memory (held book.now) table.now ledger.now) hour page.old }
 {
     if !passes(&day.numbers(), day.issues(), book, table, ledger) {
         let fault = Fault::plain(Refusal::UnsoundMemory);

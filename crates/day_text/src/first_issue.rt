@@ -1,11 +1,11 @@
 // The first issue of a table, and its statement.
 ghost use Rattle.std.specs.Prelude.{◌≡◌, ℕ, ◌/◌, ◌≤◌, true, length, take, unsigned_abs};
-ghost use Rattle.codes.specs.Cells.{cell, cell-count};
+ghost use Rattle.codes.specs.Cells.{cell, cell_count};
 ghost use Rattle.codes.specs.declared.code.Code.{Code};
-ghost use Rattle.ledger.specs.Issues.{notes-of};
-ghost use Rattle.ledger.specs.Notes.{amount-limit, sound-notes};
-ghost use Rattle.statement.specs.Statements.{statement-room, statement-text};
-ghost use Rattle.text.specs.Written.{left-if-fits};
+ghost use Rattle.ledger.specs.Issues.{notes_of};
+ghost use Rattle.ledger.specs.Notes.{amount_limit, sound_notes};
+ghost use Rattle.statement.specs.Statements.{statement_room, statement_text};
+ghost use Rattle.text.specs.Written.{left_if_fits};
 
 use codes::table::Table;
 use dayfile::heading::Heading;
@@ -15,7 +15,7 @@ use statement::issued::statement;
 
 // How many cells a table has, by its type.
 fn cells_in(table: &Table) -> usize
-    ensures { length table.now.cells ≡ cell-count }
+    ensures { length table.now.cells ≡ cell_count }
 {
     let cells: &[i64] = &table.cells;
     cells.len()
@@ -23,11 +23,11 @@ fn cells_in(table: &Table) -> usize
 
 // Issues the table into an empty ledger with room for every cell, and answers how many notes there are.
 pub fn issue_first(ledger: &mut [Note], table: &Table) -> usize
-    requires room { cell-count ≤ length ledger.old }
-    requires small { (code : Code) (party : ℕ) → unsigned_abs (cell table.now code party) ≤ amount-limit / 2 }
-    ensures notes { take result ledger.new ≡ notes-of 0 (cell table.now) }
-    ensures few { result ≤ cell-count }
-    ensures sound { sound-notes ledger.new result 1 ≡ true }
+    requires room { cell_count ≤ length ledger.old }
+    requires small { (code : Code) (party : ℕ) → unsigned_abs (cell table.now code party) ≤ amount_limit / 2 }
+    ensures notes { take result ledger.new ≡ notes_of 0 (cell table.now) }
+    ensures few { result ≤ cell_count }
+    ensures sound { sound_notes ledger.new result 1 ≡ true }
 {
     let _ = cells_in(table);
     clear(ledger);
@@ -39,11 +39,11 @@ pub fn issue_first(ledger: &mut [Note], table: &Table) -> usize
 
 // The statement of the first issue, for which there is room.
 pub fn state_first(heading: &Heading, ledger: &[Note], notes: usize, buffer: &mut [u8]) -> usize
-    requires sound { sound-notes ledger.now notes 1 ≡ true }
-    requires few { notes ≤ cell-count }
-    requires room { statement-room cell-count ≤ length buffer.old }
-    ensures answer { result ≡ length (statement-text heading.now (take notes ledger.now) 0) }
-    ensures after { buffer.new ≡ left-if-fits (statement-text heading.now (take notes ledger.now) 0) buffer.old }
+    requires sound { sound_notes ledger.now notes 1 ≡ true }
+    requires few { notes ≤ cell_count }
+    requires room { statement_room cell_count ≤ length buffer.old }
+    ensures answer { result ≡ length (statement_text heading.now (take notes ledger.now) 0) }
+    ensures after { buffer.new ≡ left_if_fits (statement_text heading.now (take notes ledger.now) 0) buffer.old }
     ensures within { result ≤ length buffer.old }
 {
     match statement(heading, ledger, notes, 1, 0, buffer) {

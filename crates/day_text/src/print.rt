@@ -1,12 +1,12 @@
 // What is printed of a day file.
 ghost use Rattle.std.specs.Prelude.{◌≡◌, ◌≤◌, true, length};
 ghost use Rattle.book.specs.Books.{held};
-ghost use Rattle.book.specs.Soundness.{sound-records};
-ghost use Rattle.codes.specs.Cells.{cell-count};
-ghost use Rattle.settlement.specs.Days.{settle-refusal};
-ghost use Rattle.text.specs.Lines.{refused-room, refused-text};
-ghost use Rattle.text.specs.Written.{left-if-fits};
-ghost use Rattle.day_text.specs.Texts.{printed-text, settled-text, text-room};
+ghost use Rattle.book.specs.Soundness.{sound_records};
+ghost use Rattle.codes.specs.Cells.{cell_count};
+ghost use Rattle.settlement.specs.Days.{settle_refusal};
+ghost use Rattle.text.specs.Lines.{refused_room, refused_text};
+ghost use Rattle.text.specs.Written.{left_if_fits};
+ghost use Rattle.day_text.specs.Texts.{printed_text, settled_text, text_room};
 
 use crate::first_issue::{issue_first, state_first};
 use book::book::Book;
@@ -25,9 +25,9 @@ pub const TEXT_ROOM: usize = 35 + 27 * CELLS;
 
 // The line of a refusal, for which there is room.
 pub fn put_fault(buffer: &mut [u8], fault: &Fault) -> usize
-    requires { refused-room ≤ length buffer.old }
-    ensures answer { result ≡ length (refused-text fault.now) }
-    ensures after { buffer.new ≡ left-if-fits (refused-text fault.now) buffer.old }
+    requires { refused_room ≤ length buffer.old }
+    ensures answer { result ≡ length (refused_text fault.now) }
+    ensures after { buffer.new ≡ left_if_fits (refused_text fault.now) buffer.old }
     ensures within { result ≤ length buffer.old }
 {
     match put_refused(buffer, fault) {
@@ -38,11 +38,11 @@ pub fn put_fault(buffer: &mut [u8], fault: &Fault) -> usize
 
 // Settles the book under the running rule, issues the table and states the issue.
 fn put_settled(book: &Book, table: &mut Table, ledger: &mut [Note], buffer: &mut [u8]) -> usize
-    requires sound { sound-records (held book.now) ≡ true }
-    requires ledger { cell-count ≤ length ledger.old }
-    requires buffer { text-room ≤ length buffer.old }
-    ensures answer { result ≡ length (settled-text (held book.now) (settle-refusal (held book.now))) }
-    ensures after { buffer.new ≡ left-if-fits (settled-text (held book.now) (settle-refusal (held book.now))) buffer.old }
+    requires sound { sound_records (held book.now) ≡ true }
+    requires ledger { cell_count ≤ length ledger.old }
+    requires buffer { text_room ≤ length buffer.old }
+    ensures answer { result ≡ length (settled_text (held book.now) (settle_refusal (held book.now))) }
+    ensures after { buffer.new ≡ left_if_fits (settled_text (held book.now) (settle_refusal (held book.now))) buffer.old }
     ensures within { result ≤ length buffer.old }
 {
     match settle(book, &Running, table) {
@@ -62,10 +62,10 @@ fn put_printed(
     buffer: &mut [u8],
     file: &[u8],
 ) -> usize
-    requires ledger { cell-count ≤ length ledger.old }
-    requires buffer { text-room ≤ length buffer.old }
-    ensures answer { result ≡ length (printed-text file.now) }
-    ensures after { buffer.new ≡ left-if-fits (printed-text file.now) buffer.old }
+    requires ledger { cell_count ≤ length ledger.old }
+    requires buffer { text_room ≤ length buffer.old }
+    ensures answer { result ≡ length (printed_text file.now) }
+    ensures after { buffer.new ≡ left_if_fits (printed_text file.now) buffer.old }
     ensures within { result ≤ length buffer.old }
 {
     match load(book, file) {
@@ -84,9 +84,9 @@ pub fn print_day(
     buffer: &mut [u8; TEXT_ROOM],
     file: &[u8],
 ) -> usize
-    ensures answer { result ≡ length (printed-text file.now) }
-    ensures after { buffer.new ≡ left-if-fits (printed-text file.now) buffer.old }
-    ensures within { result ≤ text-room }
+    ensures answer { result ≡ length (printed_text file.now) }
+    ensures after { buffer.new ≡ left_if_fits (printed_text file.now) buffer.old }
+    ensures within { result ≤ text_room }
 {
     put_printed(book, table, ledger, buffer, file)
 }

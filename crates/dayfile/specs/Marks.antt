@@ -13,15 +13,15 @@ layout Failure = (codes "FT", 4)
 layout Fine = (codes "MU", 15)
 layout End = (codes "ZZ", 4)
 
-abbrev pub mark-letters : Mark → List ℕ
-mark-letters m = (layout m).0
+abbrev pub mark_letters : Mark → List ℕ
+mark_letters m = (layout m).0
 
-abbrev pub mark-length : Mark → ℕ
-mark-length m = (layout m).1
+abbrev pub mark_length : Mark → ℕ
+mark_length m = (layout m).1
 
 -- are these the letters of the mark?
 abbrev pub marked : Mark → ℕ → ℕ → Bool
-marked m first second = first == slice_index (mark-letters m) 0 && second == slice_index (mark-letters m) 1
+marked m first second = first == slice_index (mark_letters m) 0 && second == slice_index (mark_letters m) 1
 
 abbrev pub mark_of : ℕ → ℕ → Option Mark
 mark_of first second =

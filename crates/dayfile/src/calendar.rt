@@ -1,19 +1,19 @@
 // Which dates are real, and the headings made of them.
 ghost use Rattle.std.specs.Prelude.{◌≡◌};
-ghost use Rattle.dayfile.specs.Calendar.{days-in, leap-year, real-heading};
-ghost use Rattle.dayfile.specs.Headings.{Headings-are-made, Headings-are-their-fields, heading-of, same-fields};
+ghost use Rattle.dayfile.specs.Calendar.{days_in, leap_year, real_heading};
+ghost use Rattle.dayfile.specs.Headings.{HeadingsAreMade, HeadingsAreTheirFields, heading_of, same_fields};
 
 use crate::heading::Heading;
 
 fn is_leap_year(year: u16) -> bool
-    ensures { result ≡ leap-year year }
+    ensures { result ≡ leap_year year }
 {
     year % 4 == 0 && (year % 100 != 0 || year % 400 == 0)
 }
 
 // How many days the month has; 31 for a number that is no month.
 fn days_in_month(year: u16, month: u8) -> u8
-    ensures { result ≡ days-in year month }
+    ensures { result ≡ days_in year month }
 {
     match month {
         2 => { if is_leap_year(year) { 29 } else { 28 } }
@@ -32,7 +32,7 @@ fn is_real(
     nodes: u8,
     interconnections: u8,
 ) -> bool
-    ensures { result ≡ real-heading year month day hours accounts nodes interconnections }
+    ensures { result ≡ real_heading year month day hours accounts nodes interconnections }
 {
     year >= 2016
         && year <= 2099
@@ -60,7 +60,7 @@ impl Heading {
         nodes: u8,
         interconnections: u8,
     ) -> Option<Heading>
-        ensures { result ≡ heading-of year month day hours accounts nodes interconnections }
+        ensures { result ≡ heading_of year month day hours accounts nodes interconnections }
     {
         if !is_real(year, month, day, hours, accounts, nodes, interconnections) {
             return None;
@@ -79,7 +79,7 @@ impl Heading {
 
 // Are two headings the same? They are where their fields are.
 pub fn same_heading(a: Heading, b: Heading) -> bool
-    ensures { result ≡ same-fields a b }
+    ensures { result ≡ same_fields a b }
 {
     a.year == b.year
         && a.month == b.month
@@ -92,8 +92,8 @@ pub fn same_heading(a: Heading, b: Heading) -> bool
 
 // A heading holds nothing but its fields: every heading is the one that they make, and two with the same fields are one.
 pub fn headings_stand() -> u8
-    ensures made { Headings-are-made }
-    ensures same { Headings-are-their-fields }
+    ensures made { HeadingsAreMade }
+    ensures same { HeadingsAreTheirFields }
 {
     0
 }

@@ -1,6 +1,6 @@
 // The two letters that a record begins with, and the length that they give it.
 ghost use Rattle.std.specs.Prelude.{◌≡◌, ◌≤◌};
-ghost use Rattle.dayfile.specs.Marks.{mark-length, mark-letters, mark_of};
+ghost use Rattle.dayfile.specs.Marks.{mark_length, mark_letters, mark_of};
 
 #[derive(Clone, Copy)]
 pub enum Mark {
@@ -33,7 +33,7 @@ impl Mark {
     }
 
     pub fn letters(self) -> [u8; 2]
-        ensures { result ≡ mark-letters self }
+        ensures { result ≡ mark_letters self }
     {
         match self {
             Mark::Day => *b"DY",
@@ -49,7 +49,7 @@ impl Mark {
 
     // The length of a record with this mark, the mark included.
     pub fn length(self) -> usize
-        ensures value { result ≡ mark-length self }
+        ensures value { result ≡ mark_length self }
         ensures bound { 4 ≤ result }
     {
         match self {

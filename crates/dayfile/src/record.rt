@@ -1,6 +1,6 @@
 // The six kinds of record that a book holds, as values.
 ghost use Rattle.std.specs.Prelude.{◌≡◌};
-ghost use Rattle.dayfile.specs.Classes.{class-number, class_of};
+ghost use Rattle.dayfile.specs.Classes.{class_number, class_of};
 
 // What a position stands for: energy that is put into the system (generation, import) or taken out of it (load, export).
 #[derive(Clone, Copy)]
@@ -14,7 +14,7 @@ pub enum Class {
 impl Class {
     // The number that the day file has for the class.
     pub fn number(self) -> u8
-        ensures { result ≡ class-number self }
+        ensures { result ≡ class_number self }
     {
         match self {
             Class::Generation => 1,

@@ -9,18 +9,18 @@ above n base h = mod-mul n (lit< tt) h
 pub two_back : (n : ℕ) → n < 65536 → n / 256 % 256 * 256 + n % 256 ≡ n
 two_back n h = omega arith
 
-pub four-back : (n : ℕ) → n < 4294967296 → n / 16777216 % 256 * 16777216 + n / 65536 % 256 * 65536 + n / 256 % 256 * 256 + n % 256 ≡ n
-four-back n h =
+pub four_back : (n : ℕ) → n < 4294967296 → n / 16777216 % 256 * 16777216 + n / 65536 % 256 * 65536 + n / 256 % 256 * 256 + n % 256 ≡ n
+four_back n h =
     let a : n % 65536 ≡ n / 256 % 256 * 256 + n % 256 = above n 256 (lit< tt) in
     let b : n % 16777216 ≡ n / 65536 % 256 * 65536 + n % 65536 = above n 65536 (lit< tt) in
     let c : n % 4294967296 ≡ n / 16777216 % 256 * 16777216 + n % 16777216 = above n 16777216 (lit< tt) in
     let whole : n % 4294967296 ≡ n = mod-eq_of_lt h in
     omega arith
 
-pub eight-back : (n : ℕ) → n < 18446744073709551616
+pub eight_back : (n : ℕ) → n < 18446744073709551616
     → n / 72057594037927936 % 256 * 72057594037927936 + n / 281474976710656 % 256 * 281474976710656 + n / 1099511627776 % 256 * 1099511627776
     + n / 4294967296 % 256 * 4294967296 + n / 16777216 % 256 * 16777216 + n / 65536 % 256 * 65536 + n / 256 % 256 * 256 + n % 256 ≡ n
-eight-back n h =
+eight_back n h =
     let a : n % 65536 ≡ n / 256 % 256 * 256 + n % 256 = above n 256 (lit< tt) in
     let b : n % 16777216 ≡ n / 65536 % 256 * 65536 + n % 65536 = above n 65536 (lit< tt) in
     let c : n % 4294967296 ≡ n / 16777216 % 256 * 16777216 + n % 16777216 = above n 16777216 (lit< tt) in

@@ -1,7 +1,7 @@
 // From the bytes of one record to what they say.
 ghost use Rattle.std.specs.Prelude.{◌≡◌, length, IfOk};
-ghost use Rattle.dayfile.specs.Marks.{mark-length};
-ghost use Rattle.decoding.specs.Decoded.{decoded-end, decoded-heading, decoded-record, place_of, whole-mark};
+ghost use Rattle.dayfile.specs.Marks.{mark_length};
+ghost use Rattle.decoding.specs.Decoded.{decoded_end, decoded_heading, decoded_record, place_of, whole_mark};
 
 use crate::fields;
 use dayfile::heading::Heading;
@@ -12,8 +12,8 @@ use faults::refusal::Refusal;
 
 // The mark of a record that is as long as its mark says.
 fn mark_of(bytes: &[u8]) -> Result<Mark, Fault>
-    ensures value { result ≡ whole-mark bytes.now }
-    ensures whole { IfOk result (λ m. length bytes.now ≡ mark-length m) }
+    ensures value { result ≡ whole_mark bytes.now }
+    ensures whole { IfOk result (λ m. length bytes.now ≡ mark_length m) }
 {
     let [first, second, ..] = bytes else {
         return Err(Fault::plain(Refusal::UnknownMark));
@@ -29,7 +29,7 @@ fn mark_of(bytes: &[u8]) -> Result<Mark, Fault>
 
 // The heading of a day, as it opens its file.
 pub fn decode_heading(bytes: &[u8]) -> Result<Heading, Fault>
-    ensures { result ≡ decoded-heading bytes.now }
+    ensures { result ≡ decoded_heading bytes.now }
 {
     match mark_of(bytes) {
         Ok(Mark::Day) => fields::heading(bytes).ok_or(Fault::plain(Refusal::OutOfRange)),
@@ -40,7 +40,7 @@ pub fn decode_heading(bytes: &[u8]) -> Result<Heading, Fault>
 
 // A record of one of the six kinds that a book takes. Its fields may still be out of range.
 pub fn decode_record(bytes: &[u8]) -> Result<Record, Fault>
-    ensures { result ≡ decoded-record bytes.now }
+    ensures { result ≡ decoded_record bytes.now }
 {
     match mark_of(bytes) {
         Ok(Mark::Price) => Ok(Record::Price(fields::price(bytes))),
@@ -59,7 +59,7 @@ pub fn decode_record(bytes: &[u8]) -> Result<Record, Fault>
 
 // The count of records before the end record.
 pub fn decode_end(bytes: &[u8]) -> Result<u16, Fault>
-    ensures { result ≡ decoded-end bytes.now }
+    ensures { result ≡ decoded_end bytes.now }
 {
     match mark_of(bytes) {
         Ok(Mark::End) => Ok(fields::count(bytes)),

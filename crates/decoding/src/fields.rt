@@ -1,7 +1,7 @@
 // The fields of each kind of record, taken apart. Every function here is given a record of the length that its mark has.
 ghost use Rattle.std.specs.Prelude.{◌≡◌, ◌+◌, ◌≤◌, length, drop};
-ghost use Rattle.decoding.specs.Decoded.{position-or-fault};
-ghost use Rattle.decoding.specs.Fields.{failure-in, fine-in, four_bytes, heading-in, interconnection-in, price-in, reserve-in, signed-four-bytes, two_bytes};
+ghost use Rattle.decoding.specs.Decoded.{position_or_fault};
+ghost use Rattle.decoding.specs.Fields.{failure_in, fine_in, four_bytes, heading_in, interconnection_in, price_in, reserve_in, signed_four_bytes, two_bytes};
 
 use dayfile::heading::Heading;
 use dayfile::record::{Class, Failure, Fine, Interconnection, Position, Price, Reserve};
@@ -24,7 +24,7 @@ fn number(bytes: &[u8]) -> (u32, &[u8])
 // The same of a signed number.
 fn signed_number(bytes: &[u8]) -> (i32, &[u8])
     requires { 4 ≤ length bytes.now }
-    ensures value { result.0 ≡ signed-four-bytes bytes.now 0 }
+    ensures value { result.0 ≡ signed_four_bytes bytes.now 0 }
     ensures rest { result.1.now ≡ drop 4 bytes.now }
     ensures left { length result.1.now + 4 ≡ length bytes.now }
 {
@@ -36,7 +36,7 @@ fn signed_number(bytes: &[u8]) -> (i32, &[u8])
 
 pub fn heading(bytes: &[u8]) -> Option<Heading>
     requires { length bytes.now ≡ 10 }
-    ensures { result ≡ heading-in bytes.now }
+    ensures { result ≡ heading_in bytes.now }
 {
     let [_, _, y1, y0, month, day, rest @ ..] = bytes else {
         unreachable()
@@ -58,7 +58,7 @@ pub fn heading(bytes: &[u8]) -> Option<Heading>
 
 pub fn price(bytes: &[u8]) -> Price
     requires { length bytes.now ≡ 12 }
-    ensures { result ≡ price-in bytes.now }
+    ensures { result ≡ price_in bytes.now }
 {
     let [_, _, node, hour, rest @ ..] = bytes else {
         unreachable()
@@ -75,7 +75,7 @@ pub fn price(bytes: &[u8]) -> Price
 
 pub fn position(bytes: &[u8]) -> Result<Position, Fault>
     requires { length bytes.now ≡ 14 }
-    ensures { result ≡ position-or-fault bytes.now }
+    ensures { result ≡ position_or_fault bytes.now }
 {
     let [_, _, account, node, hour, class, rest @ ..] = bytes else {
         unreachable()
@@ -97,7 +97,7 @@ pub fn position(bytes: &[u8]) -> Result<Position, Fault>
 
 pub fn interconnection(bytes: &[u8]) -> Interconnection
     requires { length bytes.now ≡ 26 }
-    ensures { result ≡ interconnection-in bytes.now }
+    ensures { result ≡ interconnection_in bytes.now }
 {
     let [_, _, interconnection, system, node, hour, rest @ ..] = bytes else {
         unreachable()
@@ -122,7 +122,7 @@ pub fn interconnection(bytes: &[u8]) -> Interconnection
 
 pub fn reserve(bytes: &[u8]) -> Reserve
     requires { length bytes.now ≡ 22 }
-    ensures { result ≡ reserve-in bytes.now }
+    ensures { result ≡ reserve_in bytes.now }
 {
     let [_, _, account, unit, kind, hour, rest @ ..] = bytes else {
         unreachable()
@@ -145,7 +145,7 @@ pub fn reserve(bytes: &[u8]) -> Reserve
 
 pub fn failure(bytes: &[u8]) -> Failure
     requires { length bytes.now ≡ 4 }
-    ensures { result ≡ failure-in bytes.now }
+    ensures { result ≡ failure_in bytes.now }
 {
     let [_, _, unit, kind] = bytes else {
         unreachable()
@@ -158,7 +158,7 @@ pub fn failure(bytes: &[u8]) -> Failure
 
 pub fn fine(bytes: &[u8]) -> Fine
     requires { length bytes.now ≡ 15 }
-    ensures { result ≡ fine-in bytes.now }
+    ensures { result ≡ fine_in bytes.now }
 {
     let [_, _, i3, i2, i1, i0, account, rest @ ..] = bytes else {
         unreachable()

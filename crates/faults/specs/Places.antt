@@ -13,14 +13,14 @@ at account node hour = record { offset = 0; account = account; node = node; hour
 abbrev pub nowhere : Place
 nowhere = at 0 0 0
 
-abbrev pub fault-of : Refusal → Place → Fault
-fault-of reason place = record { refusal = reason; place = place }
+abbrev pub fault_of : Refusal → Place → Fault
+fault_of reason place = record { refusal = reason; place = place }
 
 -- a fault that names no place
 abbrev pub plain : Refusal → Fault
-plain reason = fault-of reason nowhere
+plain reason = fault_of reason nowhere
 
 -- the same fault, of a record that begins at the offset
-abbrev pub reading-at : ℕ → Fault → Fault
-reading-at offset f =
+abbrev pub reading_at : ℕ → Fault → Fault
+reading_at offset f =
     record { refusal = f.refusal; place = record { offset = offset; account = f.place.account; node = f.place.node; hour = f.place.hour } }

@@ -1,7 +1,7 @@
 // What a refused call answers: the reason, and the place that it is about.
 ghost use Rattle.std.specs.Prelude.{◌≡◌};
-ghost use Rattle.faults.specs.Numbers.{refusal-layer, refusal-number};
-ghost use Rattle.faults.specs.Places.{at, fault-of, nowhere, plain, reading-at};
+ghost use Rattle.faults.specs.Numbers.{refusal_layer, refusal_number};
+ghost use Rattle.faults.specs.Places.{at, fault_of, nowhere, plain, reading_at};
 
 use crate::refusal::{Layer, Refusal};
 
@@ -48,7 +48,7 @@ impl Place {
 
 impl Fault {
     pub fn new(refusal: Refusal, place: Place) -> Self
-        ensures { result ≡ fault-of refusal place }
+        ensures { result ≡ fault_of refusal place }
     {
         Fault { refusal, place }
     }
@@ -65,20 +65,20 @@ impl Fault {
 
     // The number by which the market's documents know the reason.
     pub fn number(&self) -> u8
-        ensures { result ≡ refusal-number self.now.refusal }
+        ensures { result ≡ refusal_number self.now.refusal }
     {
         self.refusal.number()
     }
 
     pub fn layer(&self) -> Layer
-        ensures { result ≡ refusal-layer self.now.refusal }
+        ensures { result ≡ refusal_layer self.now.refusal }
     {
         self.refusal.layer()
     }
 
     // The same fault, of a record that stands at the offset.
     pub fn at_offset(self, offset: usize) -> Self
-        ensures { result ≡ reading-at offset self }
+        ensures { result ≡ reading_at offset self }
     {
         let mut place = self.place;
         place.offset = offset;

@@ -1,6 +1,6 @@
 // The reasons of refusal, with the number and the layer of each.
 ghost use Rattle.std.specs.Prelude.{◌≡◌};
-ghost use Rattle.faults.specs.Numbers.{layer-number, refusal-layer, refusal-number};
+ghost use Rattle.faults.specs.Numbers.{layer_number, refusal_layer, refusal_number};
 
 // The layer that a refusal belongs to.
 #[derive(Clone, Copy, PartialEq, Eq, Debug)]
@@ -52,7 +52,7 @@ pub enum Refusal {
 
 impl Layer {
     pub fn number(self) -> u8
-        ensures { result ≡ layer-number self }
+        ensures { result ≡ layer_number self }
     {
         match self {
             Layer::File => 1,
@@ -66,7 +66,7 @@ impl Layer {
 
 impl Refusal {
     pub fn number(self) -> u8
-        ensures { result ≡ refusal-number self }
+        ensures { result ≡ refusal_number self }
     {
         match self {
             Refusal::UnsoundMemory => 1,
@@ -89,7 +89,7 @@ impl Refusal {
     }
 
     pub fn layer(self) -> Layer
-        ensures { result ≡ refusal-layer self }
+        ensures { result ≡ refusal_layer self }
     {
         match self {
             Refusal::UnknownMark | Refusal::WrongLength => Layer::File,

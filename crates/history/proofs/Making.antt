@@ -1,100 +1,100 @@
 -- Each call of a history, from the contract of the call.
 use Rattle.std.proofs.Common.{◌≡◌, ℕ, List, [], ◌∷◌, length, Ok, Err, Result, sym, refl, ap, ◌∙◌}
 use Rattle.faults.specs.declared.fault.Fault.{Fault}
-use Rattle.decoding.specs.Decoded.{decoded-heading, decoded-record}
+use Rattle.decoding.specs.Decoded.{decoded_heading, decoded_record}
 use Rattle.dayfile.specs.Records.{Records}
 use Rattle.dayfile.specs.declared.heading.Heading.{Heading}
 use Rattle.dayfile.specs.declared.record.Record.{Record}
 use Rattle.book.specs.Books.{admission, admitted}
 use Rattle.codes.specs.declared.table.Table.{Table}
-use Rattle.loading.specs.Loading.{file-records, load-leaves}
+use Rattle.loading.specs.Loading.{file_records, load_leaves}
 use Rattle.loading.proofs.Whole.{both}
 use Rattle.sharing.specs.Fair.{Fair}
-use Rattle.day.specs.Calls.{Parts, enter-gives, issue-gives, load-answer, load_gives, made-before, made-with, open_gives, opened_with, sheet-gives, statement-gives}
-use Rattle.day.specs.Memory.{Memory, begun-with}
+use Rattle.day.specs.Calls.{Parts, enter_gives, issue_gives, load_answer, load_gives, made_before, made_with, open_gives, opened_with, sheet_gives, statement_gives}
+use Rattle.day.specs.Memory.{Memory, begun_with}
 use Rattle.day.specs.declared.refused.Refused.{Refused}
-use Rattle.day.specs.declared.state.Closed as closed-state
-use Rattle.day.specs.declared.state.Issued as issued-state
-use Rattle.day.specs.declared.state.Open as open-state
-use Rattle.day.specs.declared.state.Settled as settled-state
+use Rattle.day.specs.declared.state.Closed as closed_state
+use Rattle.day.specs.declared.state.Issued as issued_state
+use Rattle.day.specs.declared.state.Open as open_state
+use Rattle.day.specs.declared.state.Settled as settled_state
 use Rattle.history.specs.Events.{Lent, entering, issuing, lent, loading, opening, sheeting, stating}
-use Rattle.history.specs.Histories.{enters, issues, loads, opens, sheets, sheets-not, states, states-not}
+use Rattle.history.specs.Histories.{enters, issues, loads, opens, sheets, sheets_not, states, states_not}
 use Rattle.history.specs.Replays.{Replayed, Stepped}
 use Rattle.history.specs.declared.states.Day.{Day}
 use Rattle.history.specs.declared.states.Day.TheVariants.{Closed, Issued, Open, Settled}
 use Rattle.history.specs.declared.steps.Answer.TheVariants.{Added, Done, Refused as Refusal, Written}
-use Rattle.history.proofs.Ends.{issue-ends, statement-ends}
-use Rattle.history.proofs.Outcomes.{in_order, nothing-against, ok-not-err, was-refused, went-well}
-use Rattle.history.proofs.Replaying.{as-day, as-refused, page-left, replayed, stepped}
+use Rattle.history.proofs.Ends.{issue_ends, statement_ends}
+use Rattle.history.proofs.Outcomes.{in_order, nothing_against, ok_not_err, was_refused, went_well}
+use Rattle.history.proofs.Replaying.{as_day, as_refused, page_left, replayed, stepped}
 
-pub enter_step : (d e : open-state.Open) (m n : Memory) (bytes : List ℕ) (l : Lent) → (Ok e, n) ≡ enter-gives d m bytes → Stepped (entering bytes) Done (Open d) m l (Open e) n l
+pub enter_step : (d e : open_state.Open) (m n : Memory) (bytes : List ℕ) (l : Lent) → (Ok e, n) ≡ enter_gives d m bytes → Stepped (entering bytes) Done (Open d) m l (Open e) n l
 enter_step d e m n bytes l q =
-    let went = went-well _ _ _ _ _ _ _ q in
-    let found = in_order (admitted m.records bytes) (nothing-against _ _ _ went.0).1 in
-    let decoded = both (decoded-record bytes) (admission m.records) found.0 found.1 in
+    let went = went_well _ _ _ _ _ _ _ q in
+    let found = in_order (admitted m.records bytes) (nothing_against _ _ _ went.0).1 in
+    let decoded = both (decoded_record bytes) (admission m.records) found.0 found.1 in
     stepped (entering bytes) Done l l (enters d e m n bytes decoded.0 q decoded.1) refl refl refl
 
-pub settled-sheet : (d e : settled-state.Settled) (m : Memory) (hour : ℕ) (parts : Parts) (page filled : Table) (buffer : List ℕ) → Fair parts
-    → (Ok e, filled) ≡ sheet-gives parts d d.numbers (made-before d.numbers) m hour page → Stepped (sheeting hour parts) Done (Settled d) m (lent page buffer) (Settled e) m (lent filled buffer)
-settled-sheet d e m hour parts page filled buffer fair q =
-    stepped (sheeting hour parts) Done (lent page buffer) (lent filled buffer) (sheets (Settled d) (Settled e) m hour parts page filled refl fair (as-day Settled _ d page _ e filled q)) refl refl refl
+pub settled_sheet : (d e : settled_state.Settled) (m : Memory) (hour : ℕ) (parts : Parts) (page filled : Table) (buffer : List ℕ) → Fair parts
+    → (Ok e, filled) ≡ sheet_gives parts d d.numbers (made_before d.numbers) m hour page → Stepped (sheeting hour parts) Done (Settled d) m (lent page buffer) (Settled e) m (lent filled buffer)
+settled_sheet d e m hour parts page filled buffer fair q =
+    stepped (sheeting hour parts) Done (lent page buffer) (lent filled buffer) (sheets (Settled d) (Settled e) m hour parts page filled refl fair (as_day Settled _ d page _ e filled q)) refl refl refl
 
-pub issued-sheet : (d e : issued-state.Issued) (m : Memory) (hour : ℕ) (parts : Parts) (page filled : Table) (buffer : List ℕ) → Fair parts
-    → (Ok e, filled) ≡ sheet-gives parts d d.numbers (made-with d.numbers) m hour page → Stepped (sheeting hour parts) Done (Issued d) m (lent page buffer) (Issued e) m (lent filled buffer)
-issued-sheet d e m hour parts page filled buffer fair q =
-    stepped (sheeting hour parts) Done (lent page buffer) (lent filled buffer) (sheets (Issued d) (Issued e) m hour parts page filled refl fair (as-day Issued _ d page _ e filled q)) refl refl refl
+pub issued_sheet : (d e : issued_state.Issued) (m : Memory) (hour : ℕ) (parts : Parts) (page filled : Table) (buffer : List ℕ) → Fair parts
+    → (Ok e, filled) ≡ sheet_gives parts d d.numbers (made_with d.numbers) m hour page → Stepped (sheeting hour parts) Done (Issued d) m (lent page buffer) (Issued e) m (lent filled buffer)
+issued_sheet d e m hour parts page filled buffer fair q =
+    stepped (sheeting hour parts) Done (lent page buffer) (lent filled buffer) (sheets (Issued d) (Issued e) m hour parts page filled refl fair (as_day Issued _ d page _ e filled q)) refl refl refl
 
-pub settled-sheet-not : (d : settled-state.Settled) (r : Refused settled-state.Settled) (m : Memory) (hour : ℕ) (parts : Parts) (page left : Table) (buffer : List ℕ) → Fair parts
-    → (Err r, left) ≡ sheet-gives parts d d.numbers (made-before d.numbers) m hour page → Stepped (sheeting hour parts) (Refusal r.fault) (Settled d) m (lent page buffer) (Settled r.day) m (lent left buffer)
-settled-sheet-not d r m hour parts page left buffer fair q =
-    stepped (sheeting hour parts) (Refusal r.fault) (lent page buffer) (lent left buffer) (sheets-not (Settled d) (record { day = Settled r.day; fault = r.fault }) m hour parts page left refl fair (as-refused Settled _ d page _ r left q)) refl refl
-    (ap (λ p. lent p buffer) (page-left Settled _ d page _ r left q))
+pub settled_sheet_not : (d : settled_state.Settled) (r : Refused settled_state.Settled) (m : Memory) (hour : ℕ) (parts : Parts) (page left : Table) (buffer : List ℕ) → Fair parts
+    → (Err r, left) ≡ sheet_gives parts d d.numbers (made_before d.numbers) m hour page → Stepped (sheeting hour parts) (Refusal r.fault) (Settled d) m (lent page buffer) (Settled r.day) m (lent left buffer)
+settled_sheet_not d r m hour parts page left buffer fair q =
+    stepped (sheeting hour parts) (Refusal r.fault) (lent page buffer) (lent left buffer) (sheets_not (Settled d) (record { day = Settled r.day; fault = r.fault }) m hour parts page left refl fair (as_refused Settled _ d page _ r left q)) refl refl
+    (ap (λ p. lent p buffer) (page_left Settled _ d page _ r left q))
 
-pub issued-sheet-not : (d : issued-state.Issued) (r : Refused issued-state.Issued) (m : Memory) (hour : ℕ) (parts : Parts) (page left : Table) (buffer : List ℕ) → Fair parts
-    → (Err r, left) ≡ sheet-gives parts d d.numbers (made-with d.numbers) m hour page → Stepped (sheeting hour parts) (Refusal r.fault) (Issued d) m (lent page buffer) (Issued r.day) m (lent left buffer)
-issued-sheet-not d r m hour parts page left buffer fair q =
-    stepped (sheeting hour parts) (Refusal r.fault) (lent page buffer) (lent left buffer) (sheets-not (Issued d) (record { day = Issued r.day; fault = r.fault }) m hour parts page left refl fair (as-refused Issued _ d page _ r left q)) refl refl
-    (ap (λ p. lent p buffer) (page-left Issued _ d page _ r left q))
+pub issued_sheet_not : (d : issued_state.Issued) (r : Refused issued_state.Issued) (m : Memory) (hour : ℕ) (parts : Parts) (page left : Table) (buffer : List ℕ) → Fair parts
+    → (Err r, left) ≡ sheet_gives parts d d.numbers (made_with d.numbers) m hour page → Stepped (sheeting hour parts) (Refusal r.fault) (Issued d) m (lent page buffer) (Issued r.day) m (lent left buffer)
+issued_sheet_not d r m hour parts page left buffer fair q =
+    stepped (sheeting hour parts) (Refusal r.fault) (lent page buffer) (lent left buffer) (sheets_not (Issued d) (record { day = Issued r.day; fault = r.fault }) m hour parts page left refl fair (as_refused Issued _ d page _ r left q)) refl refl
+    (ap (λ p. lent p buffer) (page_left Issued _ d page _ r left q))
 
-pub issue-step : (d : settled-state.Settled) (e : issued-state.Issued) (count : ℕ) (m n : Memory) (l : Lent) → (Ok (e, count), n) ≡ issue-gives d m → Stepped issuing (Added count) (Settled d) m l (Issued e) n l
-issue-step d e count m n l q =
-    let went = issue-ends d e count m n q in
+pub issue_step : (d : settled_state.Settled) (e : issued_state.Issued) (count : ℕ) (m n : Memory) (l : Lent) → (Ok (e, count), n) ≡ issue_gives d m → Stepped issuing (Added count) (Settled d) m l (Issued e) n l
+issue_step d e count m n l q =
+    let went = issue_ends d e count m n q in
     stepped issuing (Added count) l l (issues d e count m n q) refl (ap Added (ap length went.added ∙ sym went.many)) refl
 
-pub statement-step : (d e : issued-state.Issued) (count : ℕ) (m : Memory) (number : ℕ) (page : Table) (buffer filled : List ℕ) → (Ok (e, count), filled) ≡ statement-gives d m number buffer
+pub statement_step : (d e : issued_state.Issued) (count : ℕ) (m : Memory) (number : ℕ) (page : Table) (buffer filled : List ℕ) → (Ok (e, count), filled) ≡ statement_gives d m number buffer
     → Stepped (stating number (length buffer)) (Written count) (Issued d) m (lent page buffer) (Issued e) m (lent page filled)
-statement-step d e count m number page buffer filled q =
-    let went = statement-ends d e count m number buffer filled q in
+statement_step d e count m number page buffer filled q =
+    let went = statement_ends d e count m number buffer filled q in
     stepped (stating number (length buffer)) (Written count) (lent page buffer) (lent page filled) (states d e count m number buffer filled q) refl (ap Written (sym went.many)) (ap (lent page) went.left)
 
-pub statement-step-not : (d : issued-state.Issued) (r : Refused issued-state.Issued) (m : Memory) (number : ℕ) (page : Table) (buffer left : List ℕ) → (Err r, left) ≡ statement-gives d m number buffer
+pub statement_step_not : (d : issued_state.Issued) (r : Refused issued_state.Issued) (m : Memory) (number : ℕ) (page : Table) (buffer left : List ℕ) → (Err r, left) ≡ statement_gives d m number buffer
     → Stepped (stating number (length buffer)) (Refusal r.fault) (Issued d) m (lent page buffer) (Issued r.day) m (lent page left)
-statement-step-not d r m number page buffer left q =
-    let went = was-refused _ _ _ _ _ _ _ q in
-    stepped (stating number (length buffer)) (Refusal r.fault) (lent page buffer) (lent page left) (states-not d r m number buffer left q) refl refl (ap (lent page) (sym went.2))
+statement_step_not d r m number page buffer left q =
+    let went = was_refused _ _ _ _ _ _ _ q in
+    stepped (stating number (length buffer)) (Refusal r.fault) (lent page buffer) (lent page left) (states_not d r m number buffer left q) refl refl (ap (lent page) (sym went.2))
 
 -- beginnings
 
 abbrev Opening : Type 0
-Opening = Result open-state.Open Fault × Memory
+Opening = Result open_state.Open Fault × Memory
 
 abbrev Loading : Type 0
-Loading = Result closed-state.Closed Fault × Memory
+Loading = Result closed_state.Closed Fault × Memory
 
-opened-from : (m n : Memory) (d : open-state.Open) (o : Result Heading Fault) → ◌≡◌ {A = Opening} (Ok d, n) (opened_with m o) → (heading : Heading) × (o ≡ Ok heading)
-opened-from m n d (Ok heading) q = (heading, refl)
-opened-from m n d (Err f) q = ok-not-err (ap (λ (z : Opening). z.0) q)
+opened_from : (m n : Memory) (d : open_state.Open) (o : Result Heading Fault) → ◌≡◌ {A = Opening} (Ok d, n) (opened_with m o) → (heading : Heading) × (o ≡ Ok heading)
+opened_from m n d (Ok heading) q = (heading, refl)
+opened_from m n d (Err f) q = ok_not_err (ap (λ (z : Opening). z.0) q)
 
-loaded-from : (n k : Memory) (d : closed-state.Closed) (o : Result Records Fault) → ◌≡◌ {A = Loading} (Ok d, n) (load-answer o, k) → (records : Records) × (o ≡ Ok records)
-loaded-from n k d (Ok records) q = (records, refl)
-loaded-from n k d (Err f) q = ok-not-err (ap (λ (z : Loading). z.0) q)
+loaded_from : (n k : Memory) (d : closed_state.Closed) (o : Result Records Fault) → ◌≡◌ {A = Loading} (Ok d, n) (load_answer o, k) → (records : Records) × (o ≡ Ok records)
+loaded_from n k d (Ok records) q = (records, refl)
+loaded_from n k d (Err f) q = ok_not_err (ap (λ (z : Loading). z.0) q)
 
-pub open_step : (m n : Memory) (bytes : List ℕ) (d : open-state.Open) (l : Lent) → (Ok d, n) ≡ open_gives m bytes → Replayed (opening bytes (length m.ledger) ∷ []) (Done ∷ []) (Open d) n l l
+pub open_step : (m n : Memory) (bytes : List ℕ) (d : open_state.Open) (l : Lent) → (Ok d, n) ≡ open_gives m bytes → Replayed (opening bytes (length m.ledger) ∷ []) (Done ∷ []) (Open d) n l l
 open_step m n bytes d l q =
-    let heading = opened-from m n d (decoded-heading bytes) q in
+    let heading = opened_from m n d (decoded_heading bytes) q in
     replayed _ _ l l refl refl refl (opens m n bytes d heading.0 q heading.1)
 
-pub load_step : (m n : Memory) (file : List ℕ) (d : closed-state.Closed) (l : Lent) → (Ok d, n) ≡ load_gives m file → Replayed (loading file (length m.ledger) ∷ []) (Done ∷ []) (Closed d) n l l
+pub load_step : (m n : Memory) (file : List ℕ) (d : closed_state.Closed) (l : Lent) → (Ok d, n) ≡ load_gives m file → Replayed (loading file (length m.ledger) ∷ []) (Done ∷ []) (Closed d) n l l
 load_step m n file d l q =
-    let records = loaded-from n (begun-with (load-leaves m.records file) m.ledger) d (file-records file) q in
+    let records = loaded_from n (begun_with (load_leaves m.records file) m.ledger) d (file_records file) q in
     replayed _ _ l l refl refl refl (loads m n file d records.0 q records.1)

@@ -3,17 +3,17 @@ use Rattle.std.proofs.Common.{◌≡◌, ℕ, Bool, true, false, cond, Some, Non
 use Rattle.faults.specs.Places.{plain}
 use Rattle.faults.specs.declared.fault.Fault.{Fault}
 use Rattle.faults.specs.declared.refusal.Refusal.TheVariants.{NoIssueLeft, UnsoundMemory}
-use Rattle.day.specs.Calls.{fault-in, given, in-sound}
-use Rattle.day.specs.Memory.{Memory, sound-memory}
+use Rattle.day.specs.Calls.{fault_in, given, in_sound}
+use Rattle.day.specs.Memory.{Memory, sound_memory}
 use Rattle.day.specs.declared.refused.Refused.{Refused}
 use Rattle.day.specs.declared.state.Numbers.{Numbers}
 
 -- two answers of different kinds are not one
-pub ok-not-err : {A B : Type 0} {a : A} {b : B} {X : Type 0} → ◌≡◌ {A = Result A B} (Ok a) (Err b) → X
-ok-not-err {A} {B} {a} {b} e = let z : ◌≡◌ {A = ℕ} 0 1 = cc in absurd (omega arith)
+pub ok_not_err : {A B : Type 0} {a : A} {b : B} {X : Type 0} → ◌≡◌ {A = Result A B} (Ok a) (Err b) → X
+ok_not_err {A} {B} {a} {b} e = let z : ◌≡◌ {A = ℕ} 0 1 = cc in absurd (omega arith)
 
-pub some-not-none : {A : Type 0} {a : A} {X : Type 0} → ◌≡◌ {A = Option A} (Some a) None → X
-some-not-none {A} {a} e = let z : ◌≡◌ {A = ℕ} 0 1 = cc in absurd (omega arith)
+pub some_not_none : {A : Type 0} {a : A} {X : Type 0} → ◌≡◌ {A = Option A} (Some a) None → X
+some_not_none {A} {a} e = let z : ◌≡◌ {A = ℕ} 0 1 = cc in absurd (omega arith)
 
 module _ {D E X : Type 0} where
   first : {p q : Result E (Refused D) × X} → p ≡ q → p.0 ≡ q.0
@@ -22,25 +22,25 @@ module _ {D E X : Type 0} where
   second : {p q : Result E (Refused D) × X} → p ≡ q → p.1 ≡ q.1
   second e = ap (λ (z : Result E (Refused D) × X). z.1) e
 
-  pub went-well : (o : Option Fault) (d : D) (m : X) (e' : E) (n' : X) (e : E) (n : X) → (Ok e, n) ≡ given o d m e' n' → (o ≡ None) × (e ≡ e') × (n ≡ n')
-  went-well (Some f) d m e' n' e n p = ok-not-err (first p)
-  went-well None d m e' n' e n p =
+  pub went_well : (o : Option Fault) (d : D) (m : X) (e' : E) (n' : X) (e : E) (n : X) → (Ok e, n) ≡ given o d m e' n' → (o ≡ None) × (e ≡ e') × (n ≡ n')
+  went_well (Some f) d m e' n' e n p = ok_not_err (first p)
+  went_well None d m e' n' e n p =
       let q : ◌≡◌ {A = Result E (Refused D)} (Ok e) (Ok e') = first p in
       (refl, cc, second p)
 
-  pub was-refused : (o : Option Fault) (d : D) (m : X) (e' : E) (n' : X) (r : Refused D) (n : X) → (Err r, n) ≡ given o d m e' n'
+  pub was_refused : (o : Option Fault) (d : D) (m : X) (e' : E) (n' : X) (r : Refused D) (n : X) → (Err r, n) ≡ given o d m e' n'
       → (o ≡ Some r.fault) × (r.day ≡ d) × (n ≡ m)
-  was-refused None d m e' n' r n p = ok-not-err (sym (first p))
-  was-refused (Some f) d m e' n' r n p =
+  was_refused None d m e' n' r n p = ok_not_err (sym (first p))
+  was_refused (Some f) d m e' n' r n p =
       let q : ◌≡◌ {A = Result E (Refused D)} (Err r) (Err (record { day = d; fault = f })) = first p in
       let s : r ≡ record { day = d; fault = f } = cc in
       (ap (λ (x : Refused D). Some x.fault) (sym s), ap (λ (x : Refused D). x.day) s, second p)
 
 -- the refusal of unsound memory comes before every other
-pub nothing-against : (b : Bool) (o : Option Fault) (f : Fault) → cond b o (Some f) ≡ None → (b ≡ true) × (o ≡ None)
-nothing-against true o f e = (refl, e)
-nothing-against false o f e = some-not-none e
+pub nothing_against : (b : Bool) (o : Option Fault) (f : Fault) → cond b o (Some f) ≡ None → (b ≡ true) × (o ≡ None)
+nothing_against true o f e = (refl, e)
+nothing_against false o f e = some_not_none e
 
-pub in_order : {X : Type 0} (o : Result X Fault) → fault-in o ≡ None → (x : X) × (o ≡ Ok x)
+pub in_order : {X : Type 0} (o : Result X Fault) → fault_in o ≡ None → (x : X) × (o ≡ Ok x)
 in_order (Ok x) e = (x, refl)
-in_order (Err f) e = some-not-none e
+in_order (Err f) e = some_not_none e

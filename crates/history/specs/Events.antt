@@ -5,13 +5,13 @@ use Rattle.faults.specs.declared.fault.Fault.{Fault}
 use Rattle.dayfile.specs.Records.{Records}
 use Rattle.dayfile.specs.declared.heading.Heading.{Heading}
 use Rattle.dayfile.specs.declared.record.Record.{Record}
-use Rattle.book.specs.Books.{new-heading, no-records, with-record}
-use Rattle.correcting.specs.Readings.{with-reading}
+use Rattle.book.specs.Books.{new_heading, no_records, with_record}
+use Rattle.correcting.specs.Readings.{with_reading}
 use Rattle.correcting.specs.declared.reading.Reading.{Reading}
 use Rattle.codes.specs.declared.table.Table.{Table}
 use Rattle.ledger.specs.declared.note.Note.{Note}
 use Rattle.day.specs.Calls.{Parts}
-use Rattle.history.specs.States.{has-table, is-closed, is-issued, is_open, is-settled}
+use Rattle.history.specs.States.{has_table, is_closed, is_issued, is_open, is_settled}
 use Rattle.history.specs.declared.states.Day.{Day}
 use Rattle.history.specs.declared.steps.Answer.{Answer}
 use Rattle.history.specs.declared.steps.Answer.TheVariants.{Added, Done, Refused, Written}
@@ -46,18 +46,18 @@ pub data Event : Type 0 where
   reopened : Event
   refused : Call → Fault → Event
 
-abbrev pub call-of : Event → Call
-call-of (opened bytes entries heading) = opening bytes entries
-call-of (loaded file entries records) = loading file entries
-call-of (entered bytes item) = entering bytes
-call-of (closed bytes) = closing bytes
-call-of (corrected reading) = correcting reading
-call-of (settled parts) = settling parts
-call-of (sheeted hour parts page) = sheeting hour parts
-call-of (issued notes) = issuing
-call-of (stated number room text) = stating number room
-call-of reopened = reopening
-call-of (refused call fault) = call
+abbrev pub call_of : Event → Call
+call_of (opened bytes entries heading) = opening bytes entries
+call_of (loaded file entries records) = loading file entries
+call_of (entered bytes item) = entering bytes
+call_of (closed bytes) = closing bytes
+call_of (corrected reading) = correcting reading
+call_of (settled parts) = settling parts
+call_of (sheeted hour parts page) = sheeting hour parts
+call_of (issued notes) = issuing
+call_of (stated number room text) = stating number room
+call_of reopened = reopening
+call_of (refused call fault) = call
 
 -- which calls the state of a day takes
 abbrev pub takes : Day → Call → Bool
@@ -65,26 +65,26 @@ takes day (opening bytes entries) = false
 takes day (loading file entries) = false
 takes day (entering bytes) = is_open day
 takes day (closing bytes) = is_open day
-takes day (correcting reading) = is-closed day
-takes day (settling parts) = is-closed day
-takes day (sheeting hour parts) = has-table day
-takes day issuing = is-settled day
-takes day (stating number room) = is-issued day
-takes day reopening = is-issued day
+takes day (correcting reading) = is_closed day
+takes day (settling parts) = is_closed day
+takes day (sheeting hour parts) = has_table day
+takes day issuing = is_settled day
+takes day (stating number room) = is_issued day
+takes day reopening = is_issued day
 
 -- what the call answered
-abbrev pub answer-of : Event → Answer
-answer-of (opened bytes entries heading) = Done
-answer-of (loaded file entries records) = Done
-answer-of (entered bytes item) = Done
-answer-of (closed bytes) = Done
-answer-of (corrected reading) = Done
-answer-of (settled parts) = Done
-answer-of (sheeted hour parts page) = Done
-answer-of (issued notes) = Added (length notes)
-answer-of (stated number room text) = Written (length text)
-answer-of reopened = Done
-answer-of (refused call fault) = Refused fault
+abbrev pub answer_of : Event → Answer
+answer_of (opened bytes entries heading) = Done
+answer_of (loaded file entries records) = Done
+answer_of (entered bytes item) = Done
+answer_of (closed bytes) = Done
+answer_of (corrected reading) = Done
+answer_of (settled parts) = Done
+answer_of (sheeted hour parts page) = Done
+answer_of (issued notes) = Added (length notes)
+answer_of (stated number room text) = Written (length text)
+answer_of reopened = Done
+answer_of (refused call fault) = Refused fault
 
 -- the page and the buffer that are lent to sheets and statements
 pub record Lent : Type 0 where
@@ -95,38 +95,38 @@ abbrev pub lent : Table → List ℕ → Lent
 lent page buffer = record { page = page; buffer = buffer }
 
 -- what a call leaves of them: a sheet fills the page, a statement the front of the buffer, every other call leaves both
-abbrev pub lent-after : Event → Lent → Lent
-lent-after (opened bytes entries heading) l = l
-lent-after (loaded file entries records) l = l
-lent-after (entered bytes item) l = l
-lent-after (closed bytes) l = l
-lent-after (corrected reading) l = l
-lent-after (settled parts) l = l
-lent-after (sheeted hour parts page) l = lent page l.buffer
-lent-after (issued notes) l = l
-lent-after (stated number room text) l = lent l.page (text ++ drop (length text) l.buffer)
-lent-after reopened l = l
-lent-after (refused call fault) l = l
+abbrev pub lent_after : Event → Lent → Lent
+lent_after (opened bytes entries heading) l = l
+lent_after (loaded file entries records) l = l
+lent_after (entered bytes item) l = l
+lent_after (closed bytes) l = l
+lent_after (corrected reading) l = l
+lent_after (settled parts) l = l
+lent_after (sheeted hour parts page) l = lent page l.buffer
+lent_after (issued notes) l = l
+lent_after (stated number room text) l = lent l.page (text ++ drop (length text) l.buffer)
+lent_after reopened l = l
+lent_after (refused call fault) l = l
 
 -- The events of a history are listed newest first.
 
 -- the calls and the answers, the first first
-abbrev pub calls-of : List Event → List Call
-calls-of [] = []
-calls-of (event ∷ events) = calls-of events ++ (call-of event ∷ [])
+abbrev pub calls_of : List Event → List Call
+calls_of [] = []
+calls_of (event ∷ events) = calls_of events ++ (call_of event ∷ [])
 
 abbrev pub answers_of : List Event → List Answer
 answers_of [] = []
-answers_of (event ∷ events) = answers_of events ++ (answer-of event ∷ [])
+answers_of (event ∷ events) = answers_of events ++ (answer_of event ∷ [])
 
-abbrev pub lent-in : List Event → Lent → Lent
-lent-in [] l = l
-lent-in (event ∷ events) l = lent-after event (lent-in events l)
+abbrev pub lent_in : List Event → Lent → Lent
+lent_in [] l = l
+lent_in (event ∷ events) l = lent_after event (lent_in events l)
 
 -- what a settlement was made of: a rule, by its meaning, and records
 pub data Settlement : Type 0 where
   none_yet : Settlement
-  settled-by : Parts → Records → Settlement
+  settled_by : Parts → Records → Settlement
 
 -- What one reads off a history: its records, those accepted, with each reading as the last accepted correction left it; the
 -- rule and the records of the last settle accepted; those of the last issue, which are those of the last settle accepted
@@ -134,34 +134,34 @@ pub data Settlement : Type 0 where
 pub record Summary : Type 0 where
   pub records : Records
   pub settlement : Settlement
-  pub last-issue : Settlement
+  pub last_issue : Settlement
   pub issues : List (List Note)
 
 -- the notes of all issues
-abbrev pub all-notes : Summary → List Note
-all-notes s = flat_map (λ notes. notes) s.issues
+abbrev pub all_notes : Summary → List Note
+all_notes s = flat_map (λ notes. notes) s.issues
 
 abbrev pub begun : Records → Summary
-begun r = record { records = r; settlement = none_yet; last-issue = none_yet; issues = [] }
+begun r = record { records = r; settlement = none_yet; last_issue = none_yet; issues = [] }
 
-abbrev pub with-records : Summary → Records → Summary
-with-records s r = record { records = r; settlement = s.settlement; last-issue = s.last-issue; issues = s.issues }
+abbrev pub with_records : Summary → Records → Summary
+with_records s r = record { records = r; settlement = s.settlement; last_issue = s.last_issue; issues = s.issues }
 
 -- one event more
 abbrev pub summed : Event → Summary → Summary
-summed (opened bytes entries heading) s = begun (no-records heading)
+summed (opened bytes entries heading) s = begun (no_records heading)
 summed (loaded file entries records) s = begun records
-summed (entered bytes item) s = with-records s (with-record s.records item)
+summed (entered bytes item) s = with_records s (with_record s.records item)
 summed (closed bytes) s = s
-summed (corrected reading) s = with-records s (with-reading s.records reading)
-summed (settled parts) s = record { records = s.records; settlement = settled-by parts s.records; last-issue = s.last-issue; issues = s.issues }
+summed (corrected reading) s = with_records s (with_reading s.records reading)
+summed (settled parts) s = record { records = s.records; settlement = settled_by parts s.records; last_issue = s.last_issue; issues = s.issues }
 summed (sheeted hour parts page) s = s
-summed (issued notes) s = record { records = s.records; settlement = s.settlement; last-issue = s.settlement; issues = s.issues ++ (notes ∷ []) }
+summed (issued notes) s = record { records = s.records; settlement = s.settlement; last_issue = s.settlement; issues = s.issues ++ (notes ∷ []) }
 summed (stated number room text) s = s
 summed reopened s = s
 summed (refused call fault) s = s
 
 -- the summary of a history; before its first event there are no records
 abbrev pub summary : List Event → Summary
-summary [] = begun (no-records new-heading)
+summary [] = begun (no_records new_heading)
 summary (event ∷ events) = summed event (summary events)

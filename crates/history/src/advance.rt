@@ -4,7 +4,7 @@ ghost use Rattle.book.specs.Books.{held};
 ghost use Rattle.codes.specs.declared.table.Table.{Table};
 ghost use Rattle.day.specs.Memory.{memory};
 ghost use Rattle.history.specs.Events.{lent};
-ghost use Rattle.history.specs.Replays.{Advanced, Begun, call-in};
+ghost use Rattle.history.specs.Replays.{Advanced, Begun, call_in};
 
 use crate::states::Day;
 use crate::steps::{Advance, Answer, Begin, Step};
@@ -76,7 +76,7 @@ fn advance_open<'a, R: Sharing>(
     table: &Table,
     ledger: &[Note],
 ) -> Advance
-    ensures { (page : Table) (buffer : List ℕ) → Advanced (call-in R.Sharing.parts (length buffer) step.now) (Day.Open day) (memory (held book.old) table.now ledger.now) (lent page buffer) result (memory (held book.new) table.now ledger.now) (lent page buffer) }
+    ensures { (page : Table) (buffer : List ℕ) → Advanced (call_in R.Sharing.parts (length buffer) step.now) (Day.Open day) (memory (held book.old) table.now ledger.now) (lent page buffer) result (memory (held book.new) table.now ledger.now) (lent page buffer) }
 {
     match step {
         Step::Enter(bytes) => match enter(day, bytes, book, table, ledger) {
@@ -105,7 +105,7 @@ fn advance_closed<'a, R: Sharing>(
     table: &mut Table,
     ledger: &[Note],
 ) -> Advance
-    ensures { (page : Table) (buffer : List ℕ) → Advanced (call-in R.Sharing.parts (length buffer) step.now) (Day.Closed day) (memory (held book.old) table.old ledger.now) (lent page buffer) result (memory (held book.new) table.new ledger.now) (lent page buffer) }
+    ensures { (page : Table) (buffer : List ℕ) → Advanced (call_in R.Sharing.parts (length buffer) step.now) (Day.Closed day) (memory (held book.old) table.old ledger.now) (lent page buffer) result (memory (held book.new) table.new ledger.now) (lent page buffer) }
 {
     match step {
         Step::Correct(reading) => match correct(day, *reading, book, table, ledger) {
@@ -135,7 +135,7 @@ fn advance_settled<'a, R: Sharing>(
     ledger: &mut [Note],
     page: &mut Table,
 ) -> Advance
-    ensures { (buffer : List ℕ) → Advanced (call-in R.Sharing.parts (length buffer) step.now) (Day.Settled day) (memory (held book.now) table.now ledger.old) (lent page.old buffer) result (memory (held book.now) table.now ledger.new) (lent page.new buffer) }
+    ensures { (buffer : List ℕ) → Advanced (call_in R.Sharing.parts (length buffer) step.now) (Day.Settled day) (memory (held book.now) table.now ledger.old) (lent page.old buffer) result (memory (held book.now) table.now ledger.new) (lent page.new buffer) }
 {
     match step {
         Step::Sheet { hour, rule } => match sheet(day, *hour, *rule, book, table, ledger, page) {
@@ -169,7 +169,7 @@ fn advance_issued<'a, R: Sharing>(
     page: &mut Table,
     buffer: &mut [u8],
 ) -> Advance
-    ensures { Advanced (call-in R.Sharing.parts (length buffer.old) step.now) (Day.Issued day) (memory (held book.now) table.now ledger.now) (lent page.old buffer.old) result (memory (held book.now) table.now ledger.now) (lent page.new buffer.new) }
+    ensures { Advanced (call_in R.Sharing.parts (length buffer.old) step.now) (Day.Issued day) (memory (held book.now) table.now ledger.now) (lent page.old buffer.old) result (memory (held book.now) table.now ledger.now) (lent page.new buffer.new) }
 {
     match step {
         Step::Sheet { hour, rule } => match sheet(day, *hour, *rule, book, table, ledger, page) {
@@ -210,7 +210,7 @@ pub fn advance<'a, R: Sharing>(
     page: &mut Table,
     buffer: &mut [u8],
 ) -> Advance
-    ensures { Advanced (call-in R.Sharing.parts (length buffer.old) step.now) day (memory (held book.old) table.old ledger.old) (lent page.old buffer.old) result (memory (held book.new) table.new ledger.new) (lent page.new buffer.new) }
+    ensures { Advanced (call_in R.Sharing.parts (length buffer.old) step.now) day (memory (held book.old) table.old ledger.old) (lent page.old buffer.old) result (memory (held book.new) table.new ledger.new) (lent page.new buffer.new) }
 {
     match day {
         Day::Open(day) => advance_open(day, step, book, table, ledger),

@@ -1,21 +1,21 @@
 // What holds of every history, for whoever makes the calls one by one.
-ghost use Rattle.history.specs.Laws.{Calls-determine-histories, Every-history-keeps-the-laws, Memory-stays-sound, No-call-finds-memory-unsound};
+ghost use Rattle.history.specs.Laws.{CallsDetermineHistories, EveryHistoryKeepsTheLaws, MemoryStaysSound, NoCallFindsMemoryUnsound};
 
 pub fn histories_keep_the_laws() -> u8
-    ensures { Every-history-keeps-the-laws }
+    ensures { EveryHistoryKeepsTheLaws }
 {
     0
 }
 
 pub fn calls_determine_histories() -> u8
-    ensures { Calls-determine-histories }
+    ensures { CallsDetermineHistories }
 {
     0
 }
 
 pub fn memory_stays_sound() -> u8
-    ensures stays { Memory-stays-sound }
-    ensures never { No-call-finds-memory-unsound }
+    ensures stays { MemoryStaysSound }
+    ensures never { NoCallFindsMemoryUnsound }
 {
     0
 }

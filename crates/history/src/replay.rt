@@ -3,7 +3,7 @@ ghost use Rattle.std.specs.Prelude.{◌≡◌, ◌≤◌, [], length, vec_capaci
 ghost use Rattle.book.specs.Books.{held};
 ghost use Rattle.day.specs.Memory.{memory};
 ghost use Rattle.history.specs.Events.{lent};
-ghost use Rattle.history.specs.Laws.{Every-history-keeps-the-laws};
+ghost use Rattle.history.specs.Laws.{EveryHistoryKeepsTheLaws};
 ghost use Rattle.history.specs.Replays.{Ran};
 
 use crate::advance::{advance, begin};
@@ -61,7 +61,7 @@ pub fn replay<'a, R: Sharing>(
     buffer: &mut [u8],
 ) -> Result<Replay, NotBegun>
     ensures run { Ran R.Sharing.parts start.now steps.now (memory (held book.old) table.old ledger.old) (lent page.old buffer.old) result (memory (held book.new) table.new ledger.new) (lent page.new buffer.new) }
-    ensures every { Every-history-keeps-the-laws }
+    ensures every { EveryHistoryKeepsTheLaws }
 {
     let _ = histories_keep_the_laws();
     match Vec::with_capacity(heap, steps.len()) {

@@ -4,7 +4,7 @@ ghost use Rattle.std.specs.List.{AllByRecursion as All};
 ghost use Rattle.codes.specs.Sums.{sum_over};
 ghost use Rattle.valuation.specs.Valid.{ValidReserve};
 ghost use Rattle.amounts.specs.Amounts.{owned_by};
-ghost use Rattle.items.specs.Items.{at-least-zero, failed-among, failing, penalty-among};
+ghost use Rattle.items.specs.Items.{at_least_zero, failed_among, failing, penalty_among};
 
 use dayfile::record::{Failure, Reserve};
 use valuation::terms::failed_term;
@@ -46,7 +46,7 @@ fn add_failed(reserves: &[Reserve], failure: Failure, sums: &mut [i64])
     requires valid { All ValidReserve reserves.now }
     requires listed { All (λ x. (1 ≤ x.account) × (x.account ≤ length sums.old)) reserves.now }
     requires clear { (k : ℕ) → k < length sums.old → slice_index_or sums.old k (pos 0) ≡ pos 0 }
-    ensures value { (k : ℕ) → k < length sums.new → slice_index_or sums.new k (pos 0) ≡ failed-among reserves.now failure (k + 1) }
+    ensures value { (k : ℕ) → k < length sums.new → slice_index_or sums.new k (pos 0) ≡ failed_among reserves.now failure (k + 1) }
     ensures bound { (k : ℕ) → k < length sums.new → unsigned_abs (slice_index_or sums.new k (pos 0)) ≤ 16000000000000000 }
 {
     for x in reserves {
@@ -59,7 +59,7 @@ fn put_failed(reserves: &[Reserve], failure: Failure, sums: &mut [i64])
     requires few { length reserves.now ≤ 400 }
     requires valid { All ValidReserve reserves.now }
     requires listed { All (λ x. (1 ≤ x.account) × (x.account ≤ length sums.old)) reserves.now }
-    ensures value { (k : ℕ) → k < length sums.new → slice_index_or sums.new k (pos 0) ≡ failed-among reserves.now failure (k + 1) }
+    ensures value { (k : ℕ) → k < length sums.new → slice_index_or sums.new k (pos 0) ≡ failed_among reserves.now failure (k + 1) }
     ensures bound { (k : ℕ) → k < length sums.new → unsigned_abs (slice_index_or sums.new k (pos 0)) ≤ 16000000000000000 }
 {
     clear(sums);
@@ -68,7 +68,7 @@ fn put_failed(reserves: &[Reserve], failure: Failure, sums: &mut [i64])
 
 // The larger of 0 and v.
 fn at_least_zero(v: i64) -> i64
-    ensures value { result ≡ at-least-zero v }
+    ensures value { result ≡ at_least_zero v }
     ensures bound { unsigned_abs result ≤ unsigned_abs v }
 {
     if v < 0 { 0 } else { v }
@@ -79,7 +79,7 @@ fn add_penalties(sums: &[i64], penalties: &mut [i64])
     requires long { length sums.now ≡ length penalties.old }
     requires small { (k : ℕ) → k < length sums.now → unsigned_abs (slice_index_or sums.now k (pos 0)) ≤ 16000000000000000 }
     requires room { (k : ℕ) → k < length penalties.old → unsigned_abs (slice_index_or penalties.old k (pos 0)) ≤ 6000000000000000000 }
-    ensures { (k : ℕ) → k < length penalties.new → slice_index_or penalties.new k (pos 0) ≡ slice_index_or penalties.old k (pos 0) +ℤ at-least-zero (slice_index_or sums.now k (pos 0)) }
+    ensures { (k : ℕ) → k < length penalties.new → slice_index_or penalties.new k (pos 0) ≡ slice_index_or penalties.old k (pos 0) +ℤ at_least_zero (slice_index_or sums.now k (pos 0)) }
 {
     for i in 0..sums.len() {
         penalties[i] += at_least_zero(sums[i]);
@@ -98,7 +98,7 @@ pub fn put_penalties(
     requires valid { All ValidReserve reserves.now }
     requires listed { All (λ x. (1 ≤ x.account) × (x.account ≤ length sums.old)) reserves.now }
     requires long { length sums.old ≡ length penalties.old }
-    ensures { (k : ℕ) → k < length penalties.new → slice_index_or penalties.new k (pos 0) ≡ sum_over (penalty-among reserves.now (k + 1)) failures.now }
+    ensures { (k : ℕ) → k < length penalties.new → slice_index_or penalties.new k (pos 0) ≡ sum_over (penalty_among reserves.now (k + 1)) failures.now }
 {
     clear(penalties);
     for failure in failures {

@@ -1,11 +1,11 @@
 -- What the steps of an issue ask and promise one another.
 use Rattle.std.specs.Prelude.{◌≡◌, ℕ, ◌<◌, ◌≤◌, true, List, length, take, ℤ, ◌-ℤ◌, slice_index_or, unsigned_abs}
 use Rattle.codes.specs.Cells.{cell}
-use Rattle.codes.specs.Parties.{party-numbers}
+use Rattle.codes.specs.Parties.{party_numbers}
 use Rattle.codes.specs.declared.code.Code.{Code}
 use Rattle.codes.specs.declared.code.CodeRow.{CodeRow}
 use Rattle.codes.specs.declared.table.Table.{Table}
-use Rattle.ledger.specs.Issues.{counted, noted, row-notes}
+use Rattle.ledger.specs.Issues.{counted, noted, row_notes}
 use Rattle.ledger.specs.Notes.{known, no_note}
 use Rattle.ledger.specs.declared.note.Note.{Note}
 
@@ -28,5 +28,5 @@ pub record AllTakeable (t : Table) (notes : List Note) : Type 0 where
   pub small : (i : ℕ) (code : Code) (party : ℕ) → unsigned_abs (cell t code party -ℤ noted (take i notes) code party) ≤ holdable
 
 -- the notes of a code's row in the table of codes
-abbrev pub rows-notes : ℕ → (Code → ℕ → ℤ) → CodeRow → List Note
-rows-notes number f row = row-notes number f party-numbers row.code
+abbrev pub rows_notes : ℕ → (Code → ℕ → ℤ) → CodeRow → List Note
+rows_notes number f row = row_notes number f party_numbers row.code

@@ -3,10 +3,10 @@ ghost use Rattle.std.specs.Prelude.{◌≡◌, ℕ, ◌+◌, ◌*◌, ◌≤◌,
 ghost use Rattle.std.specs.List.{flat_map};
 ghost use Rattle.codes.specs.Cells.{cell};
 ghost use Rattle.codes.specs.declared.code.Code.{Code};
-ghost use Rattle.ledger.specs.Issues.{counted, issue-answer, issue-leaves, new-notes, note-for, noted, notes-of, row-notes};
-ghost use Rattle.ledger.specs.Steps.{AllTakeable, Takeable, TakenOff, holdable, rows-notes};
-ghost use Rattle.ledger.specs.Laws.{Halves-differ-within-the-limit, Issues-append, Issues-balance, Issues-bear-their-number, Issues-keep-notes-sound, Issues-reach-the-cells};
-ghost use Rattle.ledger.specs.Notes.{sound-notes, within-limit};
+ghost use Rattle.ledger.specs.Issues.{counted, issue_answer, issue_leaves, new_notes, note_for, noted, notes_of, row_notes};
+ghost use Rattle.ledger.specs.Steps.{AllTakeable, Takeable, TakenOff, holdable, rows_notes};
+ghost use Rattle.ledger.specs.Laws.{HalvesDifferWithinTheLimit, IssuesAppend, IssuesBalance, IssuesBearTheirNumber, IssuesKeepNotesSound, IssuesReachTheCells};
+ghost use Rattle.ledger.specs.Notes.{sound_notes, within_limit};
 ghost use Rattle.text.specs.Written.{Wrote};
 
 use crate::note::Note;
@@ -57,7 +57,7 @@ fn over(table: &Table, notes: &[Note]) -> Table
 
 // How many notes an amount takes: none where it is 0.
 fn count_for(amount: i64) -> usize
-    ensures value { (number : ℕ) (code : Code) (party : ℕ) → result ≡ length (note-for number code party amount) }
+    ensures value { (number : ℕ) (code : Code) (party : ℕ) → result ≡ length (note_for number code party amount) }
     ensures bound { result ≤ 1 }
 {
     if amount != 0 { 1 } else { 0 }
@@ -65,8 +65,8 @@ fn count_for(amount: i64) -> usize
 
 // The note for an amount, if it is not 0.
 fn put_note(ledger: &mut [Note], at: usize, issue: u8, code: Code, party: u8, amount: i64) -> usize
-    requires { at + length (note-for issue code party amount) ≤ length ledger.old }
-    ensures { Wrote ledger.old at (note-for issue code party amount) ledger.new result }
+    requires { at + length (note_for issue code party amount) ≤ length ledger.old }
+    ensures { Wrote ledger.old at (note_for issue code party amount) ledger.new result }
 {
     if amount != 0 {
         ledger[at] = Note {
@@ -84,7 +84,7 @@ fn put_note(ledger: &mut [Note], at: usize, issue: u8, code: Code, party: u8, am
 // How many notes a code takes.
 fn count_row(rest: &Table, code: Code, parties: &[u8]) -> usize
     requires { length parties.now ≤ 1000 }
-    ensures value { (number : ℕ) → result ≡ length (row-notes number (cell rest.now) parties.now code) }
+    ensures value { (number : ℕ) → result ≡ length (row_notes number (cell rest.now) parties.now code) }
     ensures bound { result ≤ length parties.now }
 {
     let mut count = 0;
@@ -103,8 +103,8 @@ fn put_row(
     code: Code,
     parties: &[u8],
 ) -> usize
-    requires { at + length (row-notes issue (cell rest.now) parties.now code) ≤ length ledger.old }
-    ensures { Wrote ledger.old at (row-notes issue (cell rest.now) parties.now code) ledger.new result }
+    requires { at + length (row_notes issue (cell rest.now) parties.now code) ≤ length ledger.old }
+    ensures { Wrote ledger.old at (row_notes issue (cell rest.now) parties.now code) ledger.new result }
 {
     let mut end = at;
     for party in parties {
@@ -116,7 +116,7 @@ fn put_row(
 // How many notes the codes take.
 fn count_rows(rest: &Table, rows: &[CodeRow]) -> usize
     requires { length rows.now ≤ 1000 }
-    ensures value { (number : ℕ) → result ≡ length (flat_map (rows-notes number (cell rest.now)) rows.now) }
+    ensures value { (number : ℕ) → result ≡ length (flat_map (rows_notes number (cell rest.now)) rows.now) }
     ensures bound { result ≤ 1000 * length rows.now }
 {
     let mut count = 0;
@@ -128,8 +128,8 @@ fn count_rows(rest: &Table, rows: &[CodeRow]) -> usize
 
 // The notes of the codes.
 fn put_rows(ledger: &mut [Note], at: usize, issue: u8, rest: &Table, rows: &[CodeRow]) -> usize
-    requires { at + length (flat_map (rows-notes issue (cell rest.now)) rows.now) ≤ length ledger.old }
-    ensures { Wrote ledger.old at (flat_map (rows-notes issue (cell rest.now)) rows.now) ledger.new result }
+    requires { at + length (flat_map (rows_notes issue (cell rest.now)) rows.now) ≤ length ledger.old }
+    ensures { Wrote ledger.old at (flat_map (rows_notes issue (cell rest.now)) rows.now) ledger.new result }
 {
     let mut end = at;
     for row in rows {
@@ -140,15 +140,15 @@ fn put_rows(ledger: &mut [Note], at: usize, issue: u8, rest: &Table, rows: &[Cod
 
 // How many cells are not 0.
 fn count_notes(rest: &Table) -> usize
-    ensures { (number : ℕ) → result ≡ length (notes-of number (cell rest.now)) }
+    ensures { (number : ℕ) → result ≡ length (notes_of number (cell rest.now)) }
 {
     count_rows(rest, &CODES)
 }
 
 // A note for each cell that is not 0.
 fn put_notes(ledger: &mut [Note], at: usize, issue: u8, rest: &Table) -> usize
-    requires { at + length (notes-of issue (cell rest.now)) ≤ length ledger.old }
-    ensures { Wrote ledger.old at (notes-of issue (cell rest.now)) ledger.new result }
+    requires { at + length (notes_of issue (cell rest.now)) ≤ length ledger.old }
+    ensures { Wrote ledger.old at (notes_of issue (cell rest.now)) ledger.new result }
 {
     put_rows(ledger, at, issue, rest, &CODES)
 }
@@ -164,8 +164,8 @@ fn has_room(ledger: &[Note], notes: usize, added: usize) -> bool
 // A note for each cell of `rest` that is not 0, behind the first entries of the ledger, if there is room for all of them.
 fn add_notes(ledger: &mut [Note], notes: usize, issue: u8, rest: &Table) -> Result<usize, Fault>
     requires { notes ≤ length ledger.old }
-    ensures answer { result ≡ issue-answer ledger.old notes (notes-of issue (cell rest.now)) }
-    ensures after { ledger.new ≡ issue-leaves ledger.old notes (notes-of issue (cell rest.now)) }
+    ensures answer { result ≡ issue_answer ledger.old notes (notes_of issue (cell rest.now)) }
+    ensures after { ledger.new ≡ issue_leaves ledger.old notes (notes_of issue (cell rest.now)) }
 {
     if !has_room(ledger, notes, count_notes(rest)) {
         return Err(Fault::plain(Refusal::LedgerFull));
@@ -177,11 +177,11 @@ fn add_notes(ledger: &mut [Note], notes: usize, issue: u8, rest: &Table) -> Resu
 // Issues the table: a note for each cell that differs from the sum of its earlier notes, behind them. The notes and the
 // table are sound, and there is an issue left; the new one has the number `issues`. The answer is how many notes it added.
 pub fn issue(ledger: &mut [Note], notes: usize, issues: u8, table: &Table) -> Result<usize, Fault>
-    requires sound { sound-notes ledger.old notes issues ≡ true }
-    requires limited { within-limit table.now ≡ true }
+    requires sound { sound_notes ledger.old notes issues ≡ true }
+    requires limited { within_limit table.now ≡ true }
     requires left { issues ≤ 3 }
-    ensures answer { result ≡ issue-answer ledger.old notes (new-notes ledger.old notes issues table.now) }
-    ensures after { ledger.new ≡ issue-leaves ledger.old notes (new-notes ledger.old notes issues table.now) }
+    ensures answer { result ≡ issue_answer ledger.old notes (new_notes ledger.old notes issues table.now) }
+    ensures after { ledger.new ≡ issue_leaves ledger.old notes (new_notes ledger.old notes issues table.now) }
 {
     let rest = over(table, &ledger[0..notes]);
     add_notes(ledger, notes, issues, &rest)
@@ -189,12 +189,12 @@ pub fn issue(ledger: &mut [Note], notes: usize, issues: u8, table: &Table) -> Re
 
 // What holds of every issue on sound notes.
 pub fn issues_stand() -> u8
-    ensures append { Issues-append }
-    ensures reach { Issues-reach-the-cells }
-    ensures balances { Issues-balance }
-    ensures bear { Issues-bear-their-number }
-    ensures keep { Issues-keep-notes-sound }
-    ensures halves { Halves-differ-within-the-limit }
+    ensures append { IssuesAppend }
+    ensures reach { IssuesReachTheCells }
+    ensures balances { IssuesBalance }
+    ensures bear { IssuesBearTheirNumber }
+    ensures keep { IssuesKeepNotesSound }
+    ensures halves { HalvesDifferWithinTheLimit }
 {
     0
 }

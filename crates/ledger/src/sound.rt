@@ -1,6 +1,6 @@
 // Whether the notes of a ledger, and the cells of a table, could be those that the calls of a day left.
 ghost use Rattle.std.specs.Prelude.{◌≡◌};
-ghost use Rattle.ledger.specs.Notes.{all-within, known, sound-list, sound-next, sound-note, sound-notes, within, within-limit};
+ghost use Rattle.ledger.specs.Notes.{all_within, known, sound_list, sound_next, sound_note, sound_notes, within, within_limit};
 
 use crate::note::{AMOUNT_LIMIT, Note};
 use codes::code::Code;
@@ -20,20 +20,20 @@ fn is_known(note: &Note) -> bool
 }
 
 fn is_sound(note: &Note, issues: u8) -> bool
-    ensures { result ≡ sound-note issues note.now }
+    ensures { result ≡ sound_note issues note.now }
 {
     is_known(note) && amount_within(note.amount) && note.amount != 0 && note.issue < issues
 }
 
 fn is_next(note: &Note, last: &Note, issues: u8) -> bool
-    ensures { result ≡ sound-next issues last.now note.now }
+    ensures { result ≡ sound_next issues last.now note.now }
 {
     last.precedes(note) && is_sound(note, issues)
 }
 
 // Is each note sound, and after the one before it?
 fn are_sound_notes(notes: &[Note], issues: u8) -> bool
-    ensures { result ≡ sound-list issues notes.now }
+    ensures { result ≡ sound_list issues notes.now }
 {
     let mut last = Note::none();
     for note in notes {
@@ -47,13 +47,13 @@ fn are_sound_notes(notes: &[Note], issues: u8) -> bool
 
 // Are the first entries of the ledger, as many as `notes`, sound notes of the first `issues` issues?
 pub fn are_sound(ledger: &[Note], notes: usize, issues: u8) -> bool
-    ensures { result ≡ sound-notes ledger.now notes issues }
+    ensures { result ≡ sound_notes ledger.now notes issues }
 {
     notes <= ledger.len() && are_sound_notes(&ledger[0..notes], issues)
 }
 
 fn all_within(amounts: &[i64]) -> bool
-    ensures { result ≡ all-within amounts.now }
+    ensures { result ≡ all_within amounts.now }
 {
     for amount in amounts {
         if !amount_within(*amount) {
@@ -65,7 +65,7 @@ fn all_within(amounts: &[i64]) -> bool
 
 // Does no cell pass the limit?
 pub fn is_within(table: &Table) -> bool
-    ensures { result ≡ within-limit table.now }
+    ensures { result ≡ within_limit table.now }
 {
     all_within(&table.cells)
 }

@@ -8,20 +8,20 @@ use Rattle.faults.specs.declared.fault.Fault.{Fault}
 use Rattle.faults.specs.declared.fault.Place.{Place}
 use Rattle.faults.specs.declared.refusal.Refusal.{Refusal}
 use Rattle.faults.specs.declared.refusal.Refusal.TheVariants.{UnknownMark, WrongLength, WrongCount}
-use Rattle.dayfile.specs.Marks.{mark-length, mark_of}
+use Rattle.dayfile.specs.Marks.{mark_length, mark_of}
 use Rattle.dayfile.specs.Records.{Records}
 use Rattle.dayfile.specs.declared.mark.Mark.{Mark}
 use Rattle.dayfile.specs.declared.mark.Mark.TheVariants as mark
 use Rattle.dayfile.specs.declared.record.Record.{Record}
-use Rattle.decoding.specs.Decoded.{and_then, count_under, decoded-end, decoded-heading, decoded-record, heading-under, of_length, record-under, whole-mark}
+use Rattle.decoding.specs.Decoded.{and_then, count_under, decoded_end, decoded_heading, decoded_record, heading_under, of_length, record_under, whole_mark}
 use Rattle.decoding.specs.Fields.{byte}
-use Rattle.cutting.specs.Cuts.{cut_at, first-record, front, past, placed_at}
-use Rattle.book.specs.Books.{admission, admitted, no-records, record-count, with-record}
-use Rattle.book.specs.Soundness.{sound-records}
-use Rattle.book.proofs.Keeps.{entering-keeps-sound, opened-is-sound}
-use Rattle.closing.specs.Prices.{closing, ended, first-unpriced, priced-or-fault}
-use Rattle.loading.specs.Laws.{Accepted, Load-is-open-enter-close, Loaded-is-sound, entered-in-turn}
-use Rattle.loading.specs.Loading.{Step, after-cut, after-end, after-entry, at_offset, file-records, follow, goes_on, is-over, opening, records-from, records-under, step}
+use Rattle.cutting.specs.Cuts.{cut_at, first_record, front, past, placed_at}
+use Rattle.book.specs.Books.{admission, admitted, no_records, record_count, with_record}
+use Rattle.book.specs.Soundness.{sound_records}
+use Rattle.book.proofs.Keeps.{entering_keeps_sound, opened_is_sound}
+use Rattle.closing.specs.Prices.{closing, ended, first_unpriced, priced_or_fault}
+use Rattle.loading.specs.Laws.{Accepted, LoadIsOpenEnterClose, LoadedIsSound, entered_in_turn}
+use Rattle.loading.specs.Loading.{Step, after_cut, after_end, after_entry, at_offset, file_records, follow, goes_on, is_over, opening, records_from, records_under, step}
 
 -- the two steps behind what was accepted
 pub both : {X Y E : Type 0} (o : Result X E) (next : X → Result Y E) (y : Y) → and_then o next ≡ Ok y → (x : X) × (o ≡ Ok x) × (next x ≡ Ok y)
@@ -40,63 +40,63 @@ taken true n bytes part le e =
     ap (λ k. part ++ drop k bytes) long ∙ ap (λ p. p ++ drop n bytes) (sym cut) ∙ take-append-drop n bytes
 taken false n bytes part le e = let z : ◌≡◌ {A = ℕ} 0 1 = cc in absurd (omega arith)
 
-in-front : (bytes part : List ℕ) (o : Option Mark) → front bytes o ≡ Ok part → part ++ drop (length part) bytes ≡ bytes
-in-front bytes part None e = let z : ◌≡◌ {A = ℕ} 0 1 = cc in absurd (omega arith)
-in-front bytes part (Some m) e = taken (leb (mark-length m) (length bytes)) (mark-length m) bytes part (leb-true (mark-length m) (length bytes)) e
+in_front : (bytes part : List ℕ) (o : Option Mark) → front bytes o ≡ Ok part → part ++ drop (length part) bytes ≡ bytes
+in_front bytes part None e = let z : ◌≡◌ {A = ℕ} 0 1 = cc in absurd (omega arith)
+in_front bytes part (Some m) e = taken (leb (mark_length m) (length bytes)) (mark_length m) bytes part (leb-true (mark_length m) (length bytes)) e
 
-first-front : (t : Bool) (bytes part : List ℕ) (o : Option Mark) → cond t (Err UnknownMark) (front bytes o) ≡ Ok part → part ++ drop (length part) bytes ≡ bytes
-first-front true bytes part o e = let z : ◌≡◌ {A = ℕ} 0 1 = cc in absurd (omega arith)
-first-front false bytes part o e = in-front bytes part o e
+first_front : (t : Bool) (bytes part : List ℕ) (o : Option Mark) → cond t (Err UnknownMark) (front bytes o) ≡ Ok part → part ++ drop (length part) bytes ≡ bytes
+first_front true bytes part o e = let z : ◌≡◌ {A = ℕ} 0 1 = cc in absurd (omega arith)
+first_front false bytes part o e = in_front bytes part o e
 
 unplaced : (offset : ℕ) (o : Result (List ℕ) Refusal) (part : List ℕ) → placed_at offset o ≡ Ok part → o ≡ Ok part
 unplaced offset (Ok p) part e = cc
 unplaced offset (Err r) part e = let z : ◌≡◌ {A = ℕ} 0 1 = cc in absurd (omega arith)
 
-cut-front : (file : List ℕ) (at : ℕ) (part : List ℕ) → cut_at file at ≡ Ok part → drop at file ≡ part ++ drop (at + length part) file
-cut-front file at part e =
+cut_front : (file : List ℕ) (at : ℕ) (part : List ℕ) → cut_at file at ≡ Ok part → drop at file ≡ part ++ drop (at + length part) file
+cut_front file at part e =
     let bytes = drop at file in
-    sym (first-front (ltb (length bytes) 2) bytes part (mark_of (byte bytes 0) (byte bytes 1)) (unplaced at (first-record bytes) part e))
+    sym (first_front (ltb (length bytes) 2) bytes part (mark_of (byte bytes 0) (byte bytes 1)) (unplaced at (first_record bytes) part e))
     ∙ ap (λ rest. part ++ rest) (drop-drop (length part) at file)
 
 -- a whole record in front of other bytes is cut off
-sized-by : (t : Bool) (n : ℕ) (k m : Mark) → (t ≡ true → n ≡ mark-length k) → cond t (Ok k) (Err (plain WrongLength)) ≡ Ok m → (k ≡ m) × (n ≡ mark-length m)
-sized-by true n k m l e = let same : k ≡ m = cc in (same, l refl ∙ ap mark-length same)
-sized-by false n k m l e = let z : ◌≡◌ {A = ℕ} 0 1 = cc in absurd (omega arith)
+sized_by : (t : Bool) (n : ℕ) (k m : Mark) → (t ≡ true → n ≡ mark_length k) → cond t (Ok k) (Err (plain WrongLength)) ≡ Ok m → (k ≡ m) × (n ≡ mark_length m)
+sized_by true n k m l e = let same : k ≡ m = cc in (same, l refl ∙ ap mark_length same)
+sized_by false n k m l e = let z : ◌≡◌ {A = ℕ} 0 1 = cc in absurd (omega arith)
 
-sized : (n : ℕ) (o : Option Mark) (m : Mark) → of_length n o ≡ Ok m → (o ≡ Some m) × (n ≡ mark-length m)
+sized : (n : ℕ) (o : Option Mark) (m : Mark) → of_length n o ≡ Ok m → (o ≡ Some m) × (n ≡ mark_length m)
 sized n None m e = let z : ◌≡◌ {A = ℕ} 0 1 = cc in absurd (omega arith)
 sized n (Some k) m e =
-    let p = sized-by (eqb n (mark-length k)) n k m (eqb-true n (mark-length k)) e in
+    let p = sized_by (eqb n (mark_length k)) n k m (eqb-true n (mark_length k)) e in
     (ap (λ x. Some x) p.0, p.1)
 
 marked : (t : Bool) (n : ℕ) (o : Option Mark) (m : Mark) → (t ≡ false → 2 ≤ n) → cond t (Err (plain UnknownMark)) (of_length n o) ≡ Ok m
-    → (2 ≤ n) × (o ≡ Some m) × (n ≡ mark-length m)
+    → (2 ≤ n) × (o ≡ Some m) × (n ≡ mark_length m)
 marked true n o m l e = let z : ◌≡◌ {A = ℕ} 0 1 = cc in absurd (omega arith)
 marked false n o m l e = let p = sized n o m e in (l refl, p.0, p.1)
 
-whole-front : (part rest : List ℕ) (m : Mark) → whole-mark part ≡ Ok m → (2 ≤ length part) × (first-record (part ++ rest) ≡ Ok part)
-whole-front part rest m e =
+whole_front : (part rest : List ℕ) (m : Mark) → whole_mark part ≡ Ok m → (2 ≤ length part) × (first_record (part ++ rest) ≡ Ok part)
+whole_front part rest m e =
     let p = marked (ltb (length part) 2) (length part) (mark_of (byte part 0) (byte part 1)) m (ltb-false (length part) 2) e in
     let two : 2 ≤ length part = p.0 in
     let all : length (part ++ rest) ≡ length part + length rest = length-append part rest in
-    let same-0 : byte (part ++ rest) 0 ≡ byte part 0 = get_or_append_left part rest 0 0 (omega arith) in
-    let same-1 : byte (part ++ rest) 1 ≡ byte part 1 = get_or_append_left part rest 0 1 (omega arith) in
+    let same_0 : byte (part ++ rest) 0 ≡ byte part 0 = get_or_append_left part rest 0 0 (omega arith) in
+    let same_1 : byte (part ++ rest) 1 ≡ byte part 1 = get_or_append_left part rest 0 1 (omega arith) in
     let long : ltb (length (part ++ rest)) 2 ≡ false = le-ltb (length (part ++ rest)) 2 (omega arith) in
     let is : mark_of (byte (part ++ rest) 0) (byte (part ++ rest) 1) ≡ Some m =
-    ap (λ k. mark_of k (byte (part ++ rest) 1)) same-0 ∙ ap (mark_of (byte part 0)) same-1 ∙ p.1 in
-    let room : leb (mark-length m) (length (part ++ rest)) ≡ true = le-leb (mark-length m) (length (part ++ rest)) (omega (arith, p.2)) in (
+    ap (λ k. mark_of k (byte (part ++ rest) 1)) same_0 ∙ ap (mark_of (byte part 0)) same_1 ∙ p.1 in
+    let room : leb (mark_length m) (length (part ++ rest)) ≡ true = le-leb (mark_length m) (length (part ++ rest)) (omega (arith, p.2)) in (
       two,
       ap (λ t. cond t (Err UnknownMark) (front (part ++ rest) (mark_of (byte (part ++ rest) 0) (byte (part ++ rest) 1)))) long
           ∙ ap (front (part ++ rest)) is
-          ∙ ap (λ t. cond t (Ok (take (mark-length m) (part ++ rest))) (Err WrongLength)) room
-          ∙ ap (λ bytes. Ok bytes) (take_at part rest (mark-length m) p.2),
+          ∙ ap (λ t. cond t (Ok (take (mark_length m) (part ++ rest))) (Err WrongLength)) room
+          ∙ ap (λ bytes. Ok bytes) (take_at part rest (mark_length m) p.2),
     )
 
-whole-cut : (file : List ℕ) (at : ℕ) (part rest : List ℕ) (m : Mark) → whole-mark part ≡ Ok m → drop at file ≡ part ++ rest → cut_at file at ≡ Ok part
-whole-cut file at part rest m e f = ap (λ bytes. placed_at at (first-record bytes)) f ∙ ap (placed_at at) (whole-front part rest m e).1
+whole_cut : (file : List ℕ) (at : ℕ) (part rest : List ℕ) (m : Mark) → whole_mark part ≡ Ok m → drop at file ≡ part ++ rest → cut_at file at ≡ Ok part
+whole_cut file at part rest m e f = ap (λ bytes. placed_at at (first_record bytes)) f ∙ ap (placed_at at) (whole_front part rest m e).1
 
 -- a record to be entered is no end record
-no_end : (m : Mark) (part : List ℕ) (x : Record) → record-under m part ≡ Ok x → is_ok (count_under m part) ≡ false
+no_end : (m : Mark) (part : List ℕ) (x : Record) → record_under m part ≡ Ok x → is_ok (count_under m part) ≡ false
 no_end mark.Day part x e = refl
 no_end mark.Price part x e = refl
 no_end mark.Position part x e = refl
@@ -109,13 +109,13 @@ no_end mark.End part x e = let z : ◌≡◌ {A = ℕ} 0 1 = cc in absurd (omega
 -- a record that was entered stands whole, and is no end record
 pub record Entry (part : List ℕ) : Type 0 where
   pub letters : Mark
-  pub stands : whole-mark part ≡ Ok letters
-  pub no_last : is_ok (decoded-end part) ≡ false
+  pub stands : whole_mark part ≡ Ok letters
+  pub no_last : is_ok (decoded_end part) ≡ false
 
 entry : (b : Records) (part : List ℕ) (x : Record) → admitted b part ≡ Ok x → Entry part
 entry b part x e =
-    let p = both (decoded-record part) (admission b) x e in
-    let q = both (whole-mark part) (λ m. record-under m part) p.0 p.1 in
+    let p = both (decoded_record part) (admission b) x e in
+    let q = both (whole_mark part) (λ m. record_under m part) p.0 p.1 in
     record {
       letters = q.0;
       stands = q.1;
@@ -127,12 +127,12 @@ pub record Read (file : List ℕ) (at : ℕ) (b r : Records) : Type 0 where
   pub parts : List (List ℕ)
   pub last : List ℕ
   pub rest : drop at file ≡ flat_map (λ part. part) parts ++ last
-  pub enters : entered-in-turn b parts ≡ Ok r
+  pub enters : entered_in_turn b parts ≡ Ok r
   pub closes : closing r last ≡ Ok tt
 
-at-offset-ok : {X : Type 0} (offset : ℕ) (o : Result X Fault) (x : X) → at_offset offset o ≡ Ok x → o ≡ Ok x
-at-offset-ok offset (Ok y) x e = e
-at-offset-ok offset (Err f) x e = let z : ◌≡◌ {A = ℕ} 0 1 = cc in absurd (omega arith)
+at_offset_ok : {X : Type 0} (offset : ℕ) (o : Result X Fault) (x : X) → at_offset offset o ≡ Ok x → o ≡ Ok x
+at_offset_ok offset (Ok y) x e = e
+at_offset_ok offset (Err f) x e = let z : ◌≡◌ {A = ℕ} 0 1 = cc in absurd (omega arith)
 
 closed : (t : Bool) (o : Result (Unit {0}) Fault) (b r : Records) → and_then (cond t o (Err (plain WrongCount))) (λ _. Ok b) ≡ Ok r
     → (t ≡ true) × (o ≡ Ok tt) × (b ≡ r)
@@ -141,162 +141,162 @@ closed true (Err f) b r e = let z : ◌≡◌ {A = ℕ} 0 1 = cc in absurd (omeg
 closed false o b r e = let z : ◌≡◌ {A = ℕ} 0 1 = cc in absurd (omega arith)
 
 -- the end record
-read-end : (file : List ℕ) (at : ℕ) (b r : Records) (part : List ℕ) → cut_at file at ≡ Ok part
-    → at_offset at (after-end (eqb (at + length part) (length file)) b part) ≡ Ok r → Read file at b r
-read-end file at b r part cut e =
-    let p = closed (eqb (at + length part) (length file)) (closing b part) b r (at-offset-ok at (after-end (eqb (at + length part) (length file)) b part) r e) in
+read_end : (file : List ℕ) (at : ℕ) (b r : Records) (part : List ℕ) → cut_at file at ≡ Ok part
+    → at_offset at (after_end (eqb (at + length part) (length file)) b part) ≡ Ok r → Read file at b r
+read_end file at b r part cut e =
+    let p = closed (eqb (at + length part) (length file)) (closing b part) b r (at_offset_ok at (after_end (eqb (at + length part) (length file)) b part) r e) in
     let full : at + length part ≡ length file = eqb-true (at + length part) (length file) p.0 in
     record {
       parts = [];
       last = part;
-      rest = cut-front file at part cut ∙ ap (λ tail. part ++ tail) (drop_all (at + length part) file (omega arith)) ∙ append-nil part;
+      rest = cut_front file at part cut ∙ ap (λ tail. part ++ tail) (drop_all (at + length part) file (omega arith)) ∙ append-nil part;
       enters = ap (λ x. Ok x) p.2;
       closes = ap (λ x. closing x part) (sym p.2) ∙ p.1;
     }
 
 -- one more record in front
 read_more : (file : List ℕ) (at : ℕ) (b r : Records) (part : List ℕ) (x : Record) → cut_at file at ≡ Ok part → admitted b part ≡ Ok x
-    → Read file (at + length part) (with-record b x) r → Read file at b r
+    → Read file (at + length part) (with_record b x) r → Read file at b r
 read_more file at b r part x cut e next = record {
   parts = part ∷ next.parts;
   last = next.last;
-  rest = cut-front file at part cut ∙ ap (λ tail. part ++ tail) next.rest ∙ sym (append_assoc part (flat_map (λ p. p) next.parts) next.last);
-  enters = ap (λ o. and_then o (λ y. entered-in-turn (with-record b y) next.parts)) e ∙ next.enters;
+  rest = cut_front file at part cut ∙ ap (λ tail. part ++ tail) next.rest ∙ sym (append_assoc part (flat_map (λ p. p) next.parts) next.last);
+  enters = ap (λ o. and_then o (λ y. entered_in_turn (with_record b y) next.parts)) e ∙ next.enters;
   closes = next.closes;
 }
 
-entered-read : (n : ℕ) (file : List ℕ) (at : ℕ) (b r : Records) (part : List ℕ) (o : Result Record Fault)
-    → ((x : Record) → records-from n file (at + length part) (with-record b x) ≡ Ok r → Read file (at + length part) (with-record b x) r)
+entered_read : (n : ℕ) (file : List ℕ) (at : ℕ) (b r : Records) (part : List ℕ) (o : Result Record Fault)
+    → ((x : Record) → records_from n file (at + length part) (with_record b x) ≡ Ok r → Read file (at + length part) (with_record b x) r)
     → cut_at file at ≡ Ok part → admitted b part ≡ o
-    → follow (records-from n file) (after-entry (at + length part) b (at_offset at o)) ≡ Ok r → Read file at b r
-entered-read n file at b r part (Ok x) go cut e f = read_more file at b r part x cut e (go x f)
-entered-read n file at b r part (Err g) go cut e f = let z : ◌≡◌ {A = ℕ} 0 1 = cc in absurd (omega arith)
+    → follow (records_from n file) (after_entry (at + length part) b (at_offset at o)) ≡ Ok r → Read file at b r
+entered_read n file at b r part (Ok x) go cut e f = read_more file at b r part x cut e (go x f)
+entered_read n file at b r part (Err g) go cut e f = let z : ◌≡◌ {A = ℕ} 0 1 = cc in absurd (omega arith)
 
-part-read : (n : ℕ) (file : List ℕ) (at : ℕ) (b r : Records) (part : List ℕ) (t : Bool)
-    → ((x : Record) → records-from n file (at + length part) (with-record b x) ≡ Ok r → Read file (at + length part) (with-record b x) r)
+part_read : (n : ℕ) (file : List ℕ) (at : ℕ) (b r : Records) (part : List ℕ) (t : Bool)
+    → ((x : Record) → records_from n file (at + length part) (with_record b x) ≡ Ok r → Read file (at + length part) (with_record b x) r)
     → cut_at file at ≡ Ok part
-    → follow (records-from n file) (cond t (is-over (at_offset at (after-end (eqb (at + length part) (length file)) b part)))
-    (after-entry (at + length part) b (at_offset at (admitted b part)))) ≡ Ok r → Read file at b r
-part-read n file at b r part true go cut f = read-end file at b r part cut f
-part-read n file at b r part false go cut f = entered-read n file at b r part (admitted b part) go cut refl f
+    → follow (records_from n file) (cond t (is_over (at_offset at (after_end (eqb (at + length part) (length file)) b part)))
+    (after_entry (at + length part) b (at_offset at (admitted b part)))) ≡ Ok r → Read file at b r
+part_read n file at b r part true go cut f = read_end file at b r part cut f
+part_read n file at b r part false go cut f = entered_read n file at b r part (admitted b part) go cut refl f
 
-cut-read : (n : ℕ) (file : List ℕ) (at : ℕ) (b r : Records) (o : Result (List ℕ) Fault)
-    → ((next : ℕ) (x : Record) → records-from n file next (with-record b x) ≡ Ok r → Read file next (with-record b x) r)
-    → cut_at file at ≡ o → follow (records-from n file) (after-cut file at b o) ≡ Ok r → Read file at b r
-cut-read n file at b r (Ok part) go cut f = part-read n file at b r part (is_ok (decoded-end part)) (go (at + length part)) cut f
-cut-read n file at b r (Err g) go cut f = let z : ◌≡◌ {A = ℕ} 0 1 = cc in absurd (omega arith)
+cut_read : (n : ℕ) (file : List ℕ) (at : ℕ) (b r : Records) (o : Result (List ℕ) Fault)
+    → ((next : ℕ) (x : Record) → records_from n file next (with_record b x) ≡ Ok r → Read file next (with_record b x) r)
+    → cut_at file at ≡ o → follow (records_from n file) (after_cut file at b o) ≡ Ok r → Read file at b r
+cut_read n file at b r (Ok part) go cut f = part_read n file at b r part (is_ok (decoded_end part)) (go (at + length part)) cut f
+cut_read n file at b r (Err g) go cut f = let z : ◌≡◌ {A = ℕ} 0 1 = cc in absurd (omega arith)
 
-pub run-read : (n : ℕ) (file : List ℕ) (at : ℕ) (b r : Records) → records-from n file at b ≡ Ok r → Read file at b r
-unfolding records-from
-run-read zero file at b r f = let z : ◌≡◌ {A = ℕ} 0 1 = cc in absurd (omega arith)
-run-read (suc n) file at b r f =
-    cut-read n file at b r (cut_at file at) (λ next x. run-read n file next (with-record b x) r) refl f
+pub run_read : (n : ℕ) (file : List ℕ) (at : ℕ) (b r : Records) → records_from n file at b ≡ Ok r → Read file at b r
+unfolding records_from
+run_read zero file at b r f = let z : ◌≡◌ {A = ℕ} 0 1 = cc in absurd (omega arith)
+run_read (suc n) file at b r f =
+    cut_read n file at b r (cut_at file at) (λ next x. run_read n file next (with_record b x) r) refl f
 
 -- and the other way: such a run is accepted, with enough turns
 over : (n : ℕ) (file : List ℕ) (at : ℕ) (b : Records) (s : Step) (answer : Result Records Fault)
-    → length file - at < n → step file at b ≡ s → ((m : ℕ) → length file - at ≤ m → follow (records-from m file) s ≡ answer) → records-from n file at b ≡ answer
-unfolding records-from
+    → length file - at < n → step file at b ≡ s → ((m : ℕ) → length file - at ≤ m → follow (records_from m file) s ≡ answer) → records_from n file at b ≡ answer
+unfolding records_from
 over zero file at b s answer enough e f = absurd (omega arith)
-over (suc m) file at b s answer enough e f = ap (follow (records-from m file)) e ∙ f m (omega arith)
+over (suc m) file at b s answer enough e f = ap (follow (records_from m file)) e ∙ f m (omega arith)
 
-end_step : (file : List ℕ) (at : ℕ) (b : Records) (part : List ℕ) → cut_at file at ≡ Ok part → is_ok (decoded-end part) ≡ true
-    → at + length part ≡ length file → closing b part ≡ Ok tt → step file at b ≡ is-over (Ok b)
+end_step : (file : List ℕ) (at : ℕ) (b : Records) (part : List ℕ) → cut_at file at ≡ Ok part → is_ok (decoded_end part) ≡ true
+    → at + length part ≡ length file → closing b part ≡ Ok tt → step file at b ≡ is_over (Ok b)
 end_step file at b part cut e full c =
-    let tail = after-entry (at + length part) b (at_offset at (admitted b part)) in
-    ap (after-cut file at b) cut
-    ∙ ap (λ t. cond t (is-over (at_offset at (after-end (eqb (at + length part) (length file)) b part))) tail) e
-    ∙ ap (λ t. is-over (at_offset at (after-end t b part))) (eq-eqb (at + length part) (length file) full)
-    ∙ ap (λ o. is-over (at_offset at (and_then o (λ _. Ok b)))) c
+    let tail = after_entry (at + length part) b (at_offset at (admitted b part)) in
+    ap (after_cut file at b) cut
+    ∙ ap (λ t. cond t (is_over (at_offset at (after_end (eqb (at + length part) (length file)) b part))) tail) e
+    ∙ ap (λ t. is_over (at_offset at (after_end t b part))) (eq-eqb (at + length part) (length file) full)
+    ∙ ap (λ o. is_over (at_offset at (and_then o (λ _. Ok b)))) c
 
-entry-step : (file : List ℕ) (at : ℕ) (b : Records) (part : List ℕ) (x : Record) → cut_at file at ≡ Ok part → is_ok (decoded-end part) ≡ false
-    → admitted b part ≡ Ok x → step file at b ≡ goes_on (at + length part) (with-record b x)
-entry-step file at b part x cut e a =
-    ap (after-cut file at b) cut
-    ∙ ap (λ t. cond t (is-over (at_offset at (after-end (eqb (at + length part) (length file)) b part))) (after-entry (at + length part) b (at_offset at (admitted b part)))) e
-    ∙ ap (λ o. after-entry (at + length part) b (at_offset at o)) a
+entry_step : (file : List ℕ) (at : ℕ) (b : Records) (part : List ℕ) (x : Record) → cut_at file at ≡ Ok part → is_ok (decoded_end part) ≡ false
+    → admitted b part ≡ Ok x → step file at b ≡ goes_on (at + length part) (with_record b x)
+entry_step file at b part x cut e a =
+    ap (after_cut file at b) cut
+    ∙ ap (λ t. cond t (is_over (at_offset at (after_end (eqb (at + length part) (length file)) b part))) (after_entry (at + length part) b (at_offset at (admitted b part)))) e
+    ∙ ap (λ o. after_entry (at + length part) b (at_offset at o)) a
 
-ok-is : {X E : Type 0} (o : Result X E) (x : X) → o ≡ Ok x → is_ok o ≡ true
-ok-is o x e = ap is_ok e
+ok_is : {X E : Type 0} (o : Result X E) (x : X) → o ≡ Ok x → is_ok o ≡ true
+ok_is o x e = ap is_ok e
 
-pub read-run : (parts : List (List ℕ)) (n : ℕ) (file : List ℕ) (at : ℕ) (b r : Records) (last : List ℕ)
+pub read_run : (parts : List (List ℕ)) (n : ℕ) (file : List ℕ) (at : ℕ) (b r : Records) (last : List ℕ)
     → at ≤ length file → length file - at < n → drop at file ≡ flat_map (λ part. part) parts ++ last
-    → entered-in-turn b parts ≡ Ok r → closing r last ≡ Ok tt → records-from n file at b ≡ Ok r
-read-run [] n file at b r last inside enough rest e c =
-    let p = both (decoded-end last) (ended r) tt c in
-    let q = both (whole-mark last) (λ m. count_under m last) p.0 p.1 in
-    let cut : cut_at file at ≡ Ok last = whole-cut file at last [] q.0 q.1 (rest ∙ sym (append-nil last)) in
+    → entered_in_turn b parts ≡ Ok r → closing r last ≡ Ok tt → records_from n file at b ≡ Ok r
+read_run [] n file at b r last inside enough rest e c =
+    let p = both (decoded_end last) (ended r) tt c in
+    let q = both (whole_mark last) (λ m. count_under m last) p.0 p.1 in
+    let cut : cut_at file at ≡ Ok last = whole_cut file at last [] q.0 q.1 (rest ∙ sym (append-nil last)) in
     let full : at + length last ≡ length file = omega (arith, length-drop at file, ap length rest) in
     let same : b ≡ r = cc in
-    over n file at b (is-over (Ok b)) (Ok r) enough
-    (end_step file at b last cut (ok-is (decoded-end last) p.0 p.1) full (ap (λ x. closing x last) same ∙ c))
+    over n file at b (is_over (Ok b)) (Ok r) enough
+    (end_step file at b last cut (ok_is (decoded_end last) p.0 p.1) full (ap (λ x. closing x last) same ∙ c))
     (λ m l. e)
-read-run (part ∷ parts) n file at b r last inside enough rest e c =
-    let p = both (admitted b part) (λ x. entered-in-turn (with-record b x) parts) r e in
+read_run (part ∷ parts) n file at b r last inside enough rest e c =
+    let p = both (admitted b part) (λ x. entered_in_turn (with_record b x) parts) r e in
     let x = p.0 in
     let tail = flat_map (λ bytes. bytes) parts ++ last in
     let here : drop at file ≡ part ++ tail = rest ∙ append_assoc part (flat_map (λ bytes. bytes) parts) last in
     let k = entry b part x p.1 in
-    let cut : cut_at file at ≡ Ok part = whole-cut file at part tail k.letters k.stands here in
-    let two : 2 ≤ length part = (whole-front part tail k.letters k.stands).0 in
+    let cut : cut_at file at ≡ Ok part = whole_cut file at part tail k.letters k.stands here in
+    let two : 2 ≤ length part = (whole_front part tail k.letters k.stands).0 in
     let long : length file - at ≡ length part + length tail = sym (length-drop at file) ∙ ap length here ∙ length-append part tail in
     let next : drop (at + length part) file ≡ tail =
     sym (drop-drop (length part) at file) ∙ ap (drop (length part)) here ∙ drop_at part tail (length part) refl in
-    over n file at b (goes_on (at + length part) (with-record b x)) (Ok r) enough
-    (entry-step file at b part x cut k.no_last p.1)
-    (λ m l. read-run parts m file (at + length part) (with-record b x) r last (omega arith) (omega arith) next p.2 c)
+    over n file at b (goes_on (at + length part) (with_record b x)) (Ok r) enough
+    (entry_step file at b part x cut k.no_last p.1)
+    (λ m l. read_run parts m file (at + length part) (with_record b x) r last (omega arith) (omega arith) next p.2 c)
 
-accepted-from : (file : List ℕ) (b : Records) → file-records file ≡ Ok b → Accepted file b
-accepted-from file b e =
-    let p = both (opening file) (records-under file) b e in
-    let q = both (cut_at file 0) decoded-heading p.0 p.1 in
+accepted_from : (file : List ℕ) (b : Records) → file_records file ≡ Ok b → Accepted file b
+accepted_from file b e =
+    let p = both (opening file) (records_under file) b e in
+    let q = both (cut_at file 0) decoded_heading p.0 p.1 in
     let begin : past 0 (cut_at file 0) ≡ 0 + length q.0 = ap (past 0) q.1 in
-    let k = run-read (suc (length file)) file (0 + length q.0) (no-records p.0) b
-    (ap (λ at. records-from (suc (length file)) file at (no-records p.0)) (sym begin) ∙ p.2) in
+    let k = run_read (suc (length file)) file (0 + length q.0) (no_records p.0) b
+    (ap (λ at. records_from (suc (length file)) file at (no_records p.0)) (sym begin) ∙ p.2) in
     record {
       first = q.0;
       parts = k.parts;
       last = k.last;
       heading = p.0;
-      whole = cut-front file 0 q.0 q.1 ∙ ap (λ tail. q.0 ++ tail) k.rest;
+      whole = cut_front file 0 q.0 q.1 ∙ ap (λ tail. q.0 ++ tail) k.rest;
       opens = q.2;
       enters = k.enters;
       closes = k.closes;
     }
 
-file-from : (file : List ℕ) (b : Records) → Accepted file b → file-records file ≡ Ok b
-file-from file b a =
+file_from : (file : List ℕ) (b : Records) → Accepted file b → file_records file ≡ Ok b
+file_from file b a =
     let tail = flat_map (λ part. part) a.parts ++ a.last in
-    let p = both (whole-mark a.first) (λ m. heading-under m a.first) a.heading a.opens in
-    let cut : cut_at file 0 ≡ Ok a.first = whole-cut file 0 a.first tail p.0 p.1 a.whole in
+    let p = both (whole_mark a.first) (λ m. heading_under m a.first) a.heading a.opens in
+    let cut : cut_at file 0 ≡ Ok a.first = whole_cut file 0 a.first tail p.0 p.1 a.whole in
     let long : length file ≡ length a.first + length tail = ap length a.whole ∙ length-append a.first tail in
     let next : drop (0 + length a.first) file ≡ tail =
     ap (λ k. drop k file) (omega arith) ∙ ap (drop (length a.first)) a.whole ∙ drop_at a.first tail (length a.first) refl in
-    after_both (opening file) (records-under file) a.heading b
-    (after_both (cut_at file 0) decoded-heading a.first a.heading cut a.opens)
-    (ap (λ o. records-from (suc (length file)) file (past 0 o) (no-records a.heading)) cut
-    ∙ read-run a.parts (suc (length file)) file (0 + length a.first) (no-records a.heading) b a.last
+    after_both (opening file) (records_under file) a.heading b
+    (after_both (cut_at file 0) decoded_heading a.first a.heading cut a.opens)
+    (ap (λ o. records_from (suc (length file)) file (past 0 o) (no_records a.heading)) cut
+    ∙ read_run a.parts (suc (length file)) file (0 + length a.first) (no_records a.heading) b a.last
     (omega arith) (omega arith) next a.enters a.closes)
 
-pub load-is-calls : Load-is-open-enter-close
-load-is-calls file b = (accepted-from file b, file-from file b)
+pub load_is_calls : LoadIsOpenEnterClose
+load_is_calls file b = (accepted_from file b, file_from file b)
 
 -- entering keeps sound, record after record
-turns-sound : (parts : List (List ℕ)) (b r : Records) → sound-records b ≡ true → entered-in-turn b parts ≡ Ok r → sound-records r ≡ true
-turns-sound [] b r s e = let same : b ≡ r = cc in ap sound-records (sym same) ∙ s
-turns-sound (part ∷ parts) b r s e =
-    let p = both (admitted b part) (λ x. entered-in-turn (with-record b x) parts) r e in
-    turns-sound parts (with-record b p.0) r (entering-keeps-sound b part p.0 s p.1).0 p.2
+turns_sound : (parts : List (List ℕ)) (b r : Records) → sound_records b ≡ true → entered_in_turn b parts ≡ Ok r → sound_records r ≡ true
+turns_sound [] b r s e = let same : b ≡ r = cc in ap sound_records (sym same) ∙ s
+turns_sound (part ∷ parts) b r s e =
+    let p = both (admitted b part) (λ x. entered_in_turn (with_record b x) parts) r e in
+    turns_sound parts (with_record b p.0) r (entering_keeps_sound b part p.0 s p.1).0 p.2
 
-priced-from : (o : Option Place) → priced-or-fault o ≡ Ok tt → o ≡ None
-priced-from None e = refl
-priced-from (Some q) e = let z : ◌≡◌ {A = ℕ} 0 1 = cc in absurd (omega arith)
+priced_from : (o : Option Place) → priced_or_fault o ≡ Ok tt → o ≡ None
+priced_from None e = refl
+priced_from (Some q) e = let z : ◌≡◌ {A = ℕ} 0 1 = cc in absurd (omega arith)
 
-counted-priced : (t : Bool) (o : Option Place) → cond t (priced-or-fault o) (Err (plain WrongCount)) ≡ Ok tt → o ≡ None
-counted-priced true o e = priced-from o e
-counted-priced false o e = let z : ◌≡◌ {A = ℕ} 0 1 = cc in absurd (omega arith)
+counted_priced : (t : Bool) (o : Option Place) → cond t (priced_or_fault o) (Err (plain WrongCount)) ≡ Ok tt → o ≡ None
+counted_priced true o e = priced_from o e
+counted_priced false o e = let z : ◌≡◌ {A = ℕ} 0 1 = cc in absurd (omega arith)
 
-pub loaded-is-sound : Loaded-is-sound
-loaded-is-sound file b e =
-    let a = accepted-from file b e in
-    let p = both (decoded-end a.last) (ended b) tt a.closes in
-    (turns-sound a.parts (no-records a.heading) b (opened-is-sound a.heading) a.enters, counted-priced (eqb p.0 (1 + record-count b)) (first-unpriced b) p.2)
+pub loaded_is_sound : LoadedIsSound
+loaded_is_sound file b e =
+    let a = accepted_from file b e in
+    let p = both (decoded_end a.last) (ended b) tt a.closes in
+    (turns_sound a.parts (no_records a.heading) b (opened_is_sound a.heading) a.enters, counted_priced (eqb p.0 (1 + record_count b)) (first_unpriced b) p.2)

@@ -1,14 +1,14 @@
 -- A file loaded into a book: its first record opens the book, each record after it is entered, and the first end record closes it.
 use Rattle.std.specs.Prelude.{ℕ, zero, suc, ◌+◌, ◌<◌, Bool, cond, List, length, is_ok, Ok, Err, Result, ◌==◌}
-use Rattle.faults.specs.Places.{plain, reading-at}
+use Rattle.faults.specs.Places.{plain, reading_at}
 use Rattle.faults.specs.declared.fault.Fault.{Fault}
 use Rattle.faults.specs.declared.refusal.Refusal.TheVariants.{UnknownMark, WrongCount}
 use Rattle.dayfile.specs.Records.{Records}
 use Rattle.dayfile.specs.declared.heading.Heading.{Heading}
 use Rattle.dayfile.specs.declared.record.Record.{Record}
-use Rattle.decoding.specs.Decoded.{and_then, decoded-end, decoded-heading}
+use Rattle.decoding.specs.Decoded.{and_then, decoded_end, decoded_heading}
 use Rattle.cutting.specs.Cuts.{cut_at, past}
-use Rattle.book.specs.Books.{admitted, no-records, with-record}
+use Rattle.book.specs.Books.{admitted, no_records, with_record}
 use Rattle.closing.specs.Prices.{closing}
 use Rattle.loading.specs.declared.turn.Turn.{Turn}
 use Rattle.loading.specs.declared.turn.Turn.TheVariants.{More, Over}
@@ -16,70 +16,70 @@ use Rattle.loading.specs.declared.turn.Turn.TheVariants.{More, Over}
 -- what comes of one record: the load goes on at an offset with these records, or is over
 pub data Step : Type 0 where
   goes_on : ℕ → Records → Step
-  is-over : Result Records Fault → Step
+  is_over : Result Records Fault → Step
 
 -- a fault is at the offset of the record that was reached
 abbrev pub at_offset : {X : Type 0} → ℕ → Result X Fault → Result X Fault
 at_offset offset (Ok x) = Ok x
-at_offset offset (Err f) = Err (reading-at offset f)
+at_offset offset (Err f) = Err (reading_at offset f)
 
 -- a record was entered or refused
-abbrev pub after-entry : ℕ → Records → Result Record Fault → Step
-after-entry next b (Ok x) = goes_on next (with-record b x)
-after-entry next b (Err f) = is-over (Err f)
+abbrev pub after_entry : ℕ → Records → Result Record Fault → Step
+after_entry next b (Ok x) = goes_on next (with_record b x)
+after_entry next b (Err f) = is_over (Err f)
 
 -- the end record closes the book, unless bytes follow it
-abbrev pub after-end : Bool → Records → List ℕ → Result Records Fault
-after-end last b part = and_then (cond last (closing b part) (Err (plain WrongCount))) (λ _. Ok b)
+abbrev pub after_end : Bool → Records → List ℕ → Result Records Fault
+after_end last b part = and_then (cond last (closing b part) (Err (plain WrongCount))) (λ _. Ok b)
 
 -- the end record, or one to be entered
-abbrev pub after-record : Bool → ℕ → Records → List ℕ → Step
-after-record last offset b part =
-    cond (is_ok (decoded-end part))
-    (is-over (at_offset offset (after-end last b part)))
-    (after-entry (offset + length part) b (at_offset offset (admitted b part)))
+abbrev pub after_record : Bool → ℕ → Records → List ℕ → Step
+after_record last offset b part =
+    cond (is_ok (decoded_end part))
+    (is_over (at_offset offset (after_end last b part)))
+    (after_entry (offset + length part) b (at_offset offset (admitted b part)))
 
-abbrev pub after-cut : List ℕ → ℕ → Records → Result (List ℕ) Fault → Step
-after-cut file offset b (Ok part) = after-record (offset + length part == length file) offset b part
-after-cut file offset b (Err f) = is-over (Err f)
+abbrev pub after_cut : List ℕ → ℕ → Records → Result (List ℕ) Fault → Step
+after_cut file offset b (Ok part) = after_record (offset + length part == length file) offset b part
+after_cut file offset b (Err f) = is_over (Err f)
 
 -- the record at the offset
 abbrev pub step : List ℕ → ℕ → Records → Step
-step file offset b = after-cut file offset b (cut_at file offset)
+step file offset b = after_cut file offset b (cut_at file offset)
 
 abbrev pub follow : (ℕ → Records → Result Records Fault) → Step → Result Records Fault
 follow next (goes_on offset b) = next offset b
-follow next (is-over answer) = answer
+follow next (is_over answer) = answer
 
 -- the records from an offset on, up to the end record, in at most n turns; no load comes to 0 turns
-unfoldable pub records-from : ℕ → List ℕ → ℕ → Records → Result Records Fault
-records-from zero file offset b = Err (reading-at offset (plain UnknownMark))
-records-from (suc n) file offset b = follow (records-from n file) (step file offset b)
+unfoldable pub records_from : ℕ → List ℕ → ℕ → Records → Result Records Fault
+records_from zero file offset b = Err (reading_at offset (plain UnknownMark))
+records_from (suc n) file offset b = follow (records_from n file) (step file offset b)
 
 -- the heading that a file begins with
 abbrev pub opening : List ℕ → Result Heading Fault
-opening file = and_then (cut_at file 0) decoded-heading
+opening file = and_then (cut_at file 0) decoded_heading
 
 -- the records of a file after its heading, or the first fault among them; no file has more records than bytes
-abbrev pub records-under : List ℕ → Heading → Result Records Fault
-records-under file heading = records-from (suc (length file)) file (past 0 (cut_at file 0)) (no-records heading)
+abbrev pub records_under : List ℕ → Heading → Result Records Fault
+records_under file heading = records_from (suc (length file)) file (past 0 (cut_at file 0)) (no_records heading)
 
 -- the records of a file, or its first fault
-abbrev pub file-records : List ℕ → Result Records Fault
-file-records file = and_then (opening file) (records-under file)
+abbrev pub file_records : List ℕ → Result Records Fault
+file_records file = and_then (opening file) (records_under file)
 
 -- the records that were read, or none after a fault
-abbrev pub records-or-none : Heading → Result Records Fault → Records
-records-or-none heading (Ok b) = b
-records-or-none heading (Err f) = no-records heading
+abbrev pub records_or_none : Heading → Result Records Fault → Records
+records_or_none heading (Ok b) = b
+records_or_none heading (Err f) = no_records heading
 
 -- what a load leaves: the records of the file, or none, under the file's heading, or else none under the one held before
-abbrev pub left-under : Heading → List ℕ → Result Heading Fault → Records
-left-under old file (Ok heading) = records-or-none heading (records-under file heading)
-left-under old file (Err f) = no-records old
+abbrev pub left_under : Heading → List ℕ → Result Heading Fault → Records
+left_under old file (Ok heading) = records_or_none heading (records_under file heading)
+left_under old file (Err f) = no_records old
 
-abbrev pub load-leaves : Records → List ℕ → Records
-load-leaves b file = left-under b.heading file (opening file)
+abbrev pub load_leaves : Records → List ℕ → Records
+load_leaves b file = left_under b.heading file (opening file)
 
 -- the answer to a load, with the records after it
 abbrev pub answered : Result (Unit {0}) Fault → Records → Result Records Fault
@@ -89,9 +89,9 @@ answered (Err f) b = Err f
 -- a turn of the load, with the offset and the records after it
 abbrev pub turned : Turn → ℕ → Records → Step
 turned More offset b = goes_on offset b
-turned (Over result) offset b = is-over (answered result b)
+turned (Over result) offset b = is_over (answered result b)
 
 -- a turn that is not the last moves on in the file
-abbrev pub moves-on : Turn → ℕ → ℕ → Type 0
-moves-on More before after = before < after
-moves-on (Over _) before after = Unit {0}
+abbrev pub MovesOn : Turn → ℕ → ℕ → Type 0
+MovesOn More before after = before < after
+MovesOn (Over _) before after = Unit {0}

@@ -2,8 +2,8 @@
 ghost use Rattle.std.specs.Prelude.{◌≡◌, suc, ◌+◌, length};
 ghost use Rattle.cutting.specs.Cuts.{cut_at, past};
 ghost use Rattle.book.specs.Books.{answer, held, opened};
-ghost use Rattle.loading.specs.Laws.{Load-is-open-enter-close, Loaded-is-sound};
-ghost use Rattle.loading.specs.Loading.{after-end, after-record, answered, at_offset, file-records, load-leaves, moves-on, opening, records-from, records-or-none, step, turned};
+ghost use Rattle.loading.specs.Laws.{LoadIsOpenEnterClose, LoadedIsSound};
+ghost use Rattle.loading.specs.Loading.{after_end, after_record, answered, at_offset, file_records, load_leaves, MovesOn, opening, records_from, records_or_none, step, turned};
 
 use crate::turn::Turn;
 use book::book::Book;
@@ -15,7 +15,7 @@ use faults::refusal::Refusal;
 
 // Closes the book with the end record, which stands at the offset. Bytes after it are as wrong as a wrong count.
 fn close_at(book: &Book, part: &[u8], offset: usize, is_last: bool) -> Result<(), Fault>
-    ensures { answered result (held book.now) ≡ at_offset offset (after-end is_last (held book.now) part.now) }
+    ensures { answered result (held book.now) ≡ at_offset offset (after_end is_last (held book.now) part.now) }
 {
     if !is_last {
         return Err(Fault::plain(Refusal::WrongCount).at_offset(offset));
@@ -28,7 +28,7 @@ fn close_at(book: &Book, part: &[u8], offset: usize, is_last: bool) -> Result<()
 
 // Takes one record, which stands at the offset.
 fn take(book: &mut Book, part: &[u8], offset: usize, is_last: bool) -> Turn
-    ensures { turned result (offset + length part.now) (held book.new) ≡ after-record is_last offset (held book.old) part.now }
+    ensures { turned result (offset + length part.now) (held book.new) ≡ after_record is_last offset (held book.old) part.now }
 {
     if decode_end(part).is_ok() {
         return Turn::Over(close_at(book, part, offset, is_last));
@@ -43,7 +43,7 @@ fn take(book: &mut Book, part: &[u8], offset: usize, is_last: bool) -> Turn
 fn take_next(book: &mut Book, reader: &mut Reader) -> Turn
     ensures file { reader.new.file.now ≡ reader.old.file.now }
     ensures value { turned result reader.new.offset (held book.new) ≡ step reader.old.file.now reader.old.offset (held book.old) }
-    ensures moves { moves-on result reader.old.offset reader.new.offset }
+    ensures moves { MovesOn result reader.old.offset reader.new.offset }
 {
     let offset = reader.offset();
     match reader.next() {
@@ -54,7 +54,7 @@ fn take_next(book: &mut Book, reader: &mut Reader) -> Turn
 
 // Takes the records from the reader's offset on, up to the end record.
 fn read_records(book: &mut Book, reader: &mut Reader) -> Result<(), Fault>
-    ensures { answered result (held book.new) ≡ records-from (suc (length reader.old.file.now)) reader.old.file.now reader.old.offset (held book.old) }
+    ensures { answered result (held book.new) ≡ records_from (suc (length reader.old.file.now)) reader.old.file.now reader.old.offset (held book.old) }
 {
     loop {
         match take_next(book, reader) {
@@ -66,8 +66,8 @@ fn read_records(book: &mut Book, reader: &mut Reader) -> Result<(), Fault>
 
 // Reads the records that follow the heading. After a refusal there are none.
 fn read_or_clear(book: &mut Book, reader: &mut Reader) -> Result<(), Fault>
-    ensures value { result ≡ answer (records-from (suc (length reader.old.file.now)) reader.old.file.now reader.old.offset (held book.old)) }
-    ensures after { held book.new ≡ records-or-none book.old.heading (records-from (suc (length reader.old.file.now)) reader.old.file.now reader.old.offset (held book.old)) }
+    ensures value { result ≡ answer (records_from (suc (length reader.old.file.now)) reader.old.file.now reader.old.offset (held book.old)) }
+    ensures after { held book.new ≡ records_or_none book.old.heading (records_from (suc (length reader.old.file.now)) reader.old.file.now reader.old.offset (held book.old)) }
 {
     let heading = book.heading;
     match read_records(book, reader) {
@@ -96,8 +96,8 @@ fn open_first(book: &mut Book, reader: &mut Reader) -> Result<(), Fault>
 // Loads a file: opens the book with its first record, enters each record after it, and closes the book with the end record.
 // A refused load leaves no record.
 pub fn load(book: &mut Book, file: &[u8]) -> Result<(), Fault>
-    ensures value { result ≡ answer (file-records file.now) }
-    ensures after { held book.new ≡ load-leaves (held book.old) file.now }
+    ensures value { result ≡ answer (file_records file.now) }
+    ensures after { held book.new ≡ load_leaves (held book.old) file.now }
 {
     let held_before = book.heading;
     let mut reader = Reader::new(file);
@@ -112,8 +112,8 @@ pub fn load(book: &mut Book, file: &[u8]) -> Result<(), Fault>
 
 // What an accepted load is: the calls that it stands for, one after the other, and a sound book.
 pub fn loading_stands() -> u8
-    ensures calls { Load-is-open-enter-close }
-    ensures sound { Loaded-is-sound }
+    ensures calls { LoadIsOpenEnterClose }
+    ensures sound { LoadedIsSound }
 {
     0
 }

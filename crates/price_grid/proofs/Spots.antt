@@ -4,22 +4,22 @@ use Rattle.std.specs.Option.{option_map}
 use Rattle.std.proofs.lemmas.List.{get_or-replicate, get_or_past, length-replicate}
 use Rattle.std.proofs.lemmas.Bool.{cases_lt}
 use Rattle.dayfile.specs.declared.record.Price.{Price}
-use Rattle.rows.specs.Tables.{first-place}
-use Rattle.closing.specs.Prices.{is-price-of}
+use Rattle.rows.specs.Tables.{first_place}
+use Rattle.closing.specs.Prices.{is_price_of}
 use Rattle.price_grid.specs.Found.{first_of}
 use Rattle.price_grid.specs.Grid.{Indexes, PutPrice}
 
 -- a price put before the others is the first
-pub indexes-more : (before after : List (Option Price)) (p : Price) (ps : List Price) → PutPrice before p after → Indexes before ps → Indexes after (p ∷ ps)
-indexes-more before after p ps put has node hour j = put node hour j ∙ ap (cond (is-price-of node hour p) (Some p)) (has node hour j)
+pub indexes_more : (before after : List (Option Price)) (p : Price) (ps : List Price) → PutPrice before p after → Indexes before ps → Indexes after (p ∷ ps)
+indexes_more before after p ps put has node hour j = put node hour j ∙ ap (cond (is_price_of node hour p) (Some p)) (has node hour j)
 
 pub none_in : {X : Type 0} (n k : ℕ) → get_or {A = Option X} (replicate n None) k None ≡ None
 none_in n k = ⊎_elim (λ h. get_or-replicate n k None None h) (λ h. get_or_past (replicate n None) k None (simp length-replicate h)) (cases_lt k n)
 
 -- the first of a list, by its place
-pub by_place : {X : Type 0} (test : X → Bool) (xs : List X) (d : X) → option_map (λ i. get_or xs i d) (first-place test xs) ≡ first_of test xs
+pub by_place : {X : Type 0} (test : X → Bool) (xs : List X) (d : X) → option_map (λ i. get_or xs i d) (first_place test xs) ≡ first_of test xs
 by_place test [] d = refl
-by_place {X = X} test (x ∷ xs) d = step (test x) (first-place test xs) (by_place test xs d)
+by_place {X = X} test (x ∷ xs) d = step (test x) (first_place test xs) (by_place test xs d)
   where
     step : (b : Bool) (o : Option ℕ) {p : Option X} → option_map (λ i. get_or xs i d) o ≡ p → option_map (λ i. get_or (x ∷ xs) i d) (cond b (Some 0) (option_map suc o)) ≡ cond b (Some x) p
     step true o e = refl

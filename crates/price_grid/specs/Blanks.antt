@@ -2,5 +2,5 @@
 use Rattle.std.specs.Prelude.{pos}
 use Rattle.dayfile.specs.declared.record.Price.{Price}
 
-abbrev pub no-price : Price
-no-price = record { node = 0; hour = 0; day_ahead = pos 0; real_time = pos 0 }
+abbrev pub no_price : Price
+no_price = record { node = 0; hour = 0; day_ahead = pos 0; real_time = pos 0 }

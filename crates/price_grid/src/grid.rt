@@ -1,8 +1,8 @@
 // The prices of a day by node and hour, so that a price is found in one step.
 ghost use Rattle.std.specs.Prelude.{◌≡◌, ℕ, ◌<◌, ◌≤◌, [], length, None, slice_index_or};
 ghost use Rattle.dayfile.specs.declared.record.Price.{Price};
-ghost use Rattle.price_grid.specs.Grid.{Indexes, PutPrice, Spot, is-spot, spot-place};
-ghost use Rattle.price_grid.specs.Found.{price-at};
+ghost use Rattle.price_grid.specs.Grid.{Indexes, PutPrice, Spot, is_spot, spot_place};
+ghost use Rattle.price_grid.specs.Found.{price_at};
 
 use closing::prices::find_price;
 use dayfile::record::Price;
@@ -11,14 +11,14 @@ const SPOTS: usize = 400;
 
 // Is this a node and an hour that a day can have?
 fn is_spot(node: u8, hour: u8) -> bool
-    ensures { result ≡ is-spot node hour }
+    ensures { result ≡ is_spot node hour }
 {
     node >= 1 && node <= 16 && hour >= 1 && hour <= 25
 }
 
 fn spot_place(node: u8, hour: u8) -> usize
     requires { Spot node hour }
-    ensures value { result ≡ spot-place node hour }
+    ensures value { result ≡ spot_place node hour }
     ensures below { result < 400 }
 {
     node as usize * 25 + hour as usize - 26
@@ -60,7 +60,7 @@ pub struct PriceGrid<'a> {
 
 // The price of a node in an hour by search.
 fn search_price(prices: &[Price], node: u8, hour: u8) -> Option<Price>
-    ensures { result ≡ price-at prices.now node hour }
+    ensures { result ≡ price_at prices.now node hour }
 {
     match find_price(prices, node, hour) {
         Some(i) => Some(prices[i]),
@@ -79,7 +79,7 @@ impl<'a> PriceGrid<'a> {
 
     // The price of a node in an hour.
     pub fn price_at(&self, node: u8, hour: u8) -> Option<Price>
-        ensures { result ≡ price-at self.now.prices.now node hour }
+        ensures { result ≡ price_at self.now.prices.now node hour }
     {
         if is_spot(node, hour) {
             self.spots[spot_place(node, hour)]

@@ -1,11 +1,11 @@
 // What is printed of a day file, by one replayed history of calls on the day.
 ghost use Rattle.std.specs.Prelude.{◌≡◌, ◌≤◌, [], ◌∷◌, length, IfOk, MatchResult};
-ghost use Rattle.codes.specs.Cells.{cell-count};
+ghost use Rattle.codes.specs.Cells.{cell_count};
 ghost use Rattle.history.specs.declared.steps.Step.TheVariants.{Issue, Settle, Statement};
-ghost use Rattle.text.specs.Lines.{refused-room};
-ghost use Rattle.text.specs.Written.{left-if-fits};
-ghost use Rattle.replayed_text.specs.Answered.{Line-fits, answered-length, answered-text, last-answer};
-ghost use Rattle.day_text.specs.Texts.{printed-text, text-room};
+ghost use Rattle.text.specs.Lines.{refused_room};
+ghost use Rattle.text.specs.Written.{left_if_fits};
+ghost use Rattle.replayed_text.specs.Answered.{LineFits, answered_length, answered_text, last_answer};
+ghost use Rattle.day_text.specs.Texts.{printed_text, text_room};
 
 use book::book::Book;
 use codes::table::Table;
@@ -19,10 +19,10 @@ use std::alloc::{AllocError, Global};
 
 // Writes the line of a refused call. A statement has written its text itself, and no other answer has a text.
 fn put_answer(buffer: &mut [u8], answer: &Answer) -> usize
-    requires { refused-room ≤ length buffer.old }
-    ensures length { result ≡ answered-length answer.now }
-    ensures after { buffer.new ≡ answered-text answer.now buffer.old }
-    ensures fits { Line-fits answer.now buffer.old }
+    requires { refused_room ≤ length buffer.old }
+    ensures length { result ≡ answered_length answer.now }
+    ensures after { buffer.new ≡ answered_text answer.now buffer.old }
+    ensures fits { LineFits answer.now buffer.old }
 {
     match answer {
         Answer::Refused(fault) => put_fault(buffer, fault),
@@ -34,10 +34,10 @@ fn put_answer(buffer: &mut [u8], answer: &Answer) -> usize
 
 // The same for the last of the answers.
 fn put_last(buffer: &mut [u8], mut answers: Vec<Answer>) -> usize
-    requires { refused-room ≤ length buffer.old }
-    ensures length { result ≡ answered-length (last-answer answers.items) }
-    ensures after { buffer.new ≡ answered-text (last-answer answers.items) buffer.old }
-    ensures fits { Line-fits (last-answer answers.items) buffer.old }
+    requires { refused_room ≤ length buffer.old }
+    ensures length { result ≡ answered_length (last_answer answers.items) }
+    ensures after { buffer.new ≡ answered_text (last_answer answers.items) buffer.old }
+    ensures fits { LineFits (last_answer answers.items) buffer.old }
 {
     match answers.pop() {
         Some(answer) => put_answer(buffer, &answer),
@@ -54,10 +54,10 @@ fn first_issue<'a>(rule: &'a Running) -> [Step<'a, Running>; 3]
 
 // The same at the end of a replay. A day is never dropped: its numbers are let go.
 fn put_end(buffer: &mut [u8], end: Replay) -> usize
-    requires { refused-room ≤ length buffer.old }
-    ensures length { result ≡ answered-length (last-answer end.answers.items) }
-    ensures after { buffer.new ≡ answered-text (last-answer end.answers.items) buffer.old }
-    ensures fits { Line-fits (last-answer end.answers.items) buffer.old }
+    requires { refused_room ≤ length buffer.old }
+    ensures length { result ≡ answered_length (last_answer end.answers.items) }
+    ensures after { buffer.new ≡ answered_text (last_answer end.answers.items) buffer.old }
+    ensures fits { LineFits (last_answer end.answers.items) buffer.old }
 {
     let Replay { day, answers } = end;
     let _ = day.into_numbers();
@@ -74,10 +74,10 @@ fn put_replayed(
     buffer: &mut [u8],
     file: &[u8],
 ) -> Result<usize, AllocError>
-    requires ledger { cell-count ≤ length ledger.old }
-    requires buffer { text-room ≤ length buffer.old }
-    ensures answer { IfOk result (λ n. n ≡ length (printed-text file.now)) }
-    ensures after { MatchResult result (λ _. buffer.new ≡ left-if-fits (printed-text file.now) buffer.old) (λ _. buffer.new ≡ buffer.old) }
+    requires ledger { cell_count ≤ length ledger.old }
+    requires buffer { text_room ≤ length buffer.old }
+    ensures answer { IfOk result (λ n. n ≡ length (printed_text file.now)) }
+    ensures after { MatchResult result (λ _. buffer.new ≡ left_if_fits (printed_text file.now) buffer.old) (λ _. buffer.new ≡ buffer.old) }
     ensures within { IfOk result (λ n. n ≤ length buffer.old) }
 {
     let steps = first_issue(&Running);
@@ -111,9 +111,9 @@ pub fn print_replayed_day(
     buffer: &mut [u8; TEXT_ROOM],
     file: &[u8],
 ) -> Result<usize, AllocError>
-    ensures answer { IfOk result (λ n. n ≡ length (printed-text file.now)) }
-    ensures after { MatchResult result (λ _. buffer.new ≡ left-if-fits (printed-text file.now) buffer.old) (λ _. buffer.new ≡ buffer.old) }
-    ensures within { IfOk result (λ n. n ≤ text-room) }
+    ensures answer { IfOk result (λ n. n ≡ length (printed_text file.now)) }
+    ensures after { MatchResult result (λ _. buffer.new ≡ left_if_fits (printed_text file.now) buffer.old) (λ _. buffer.new ≡ buffer.old) }
+    ensures within { IfOk result (λ n. n ≤ text_room) }
 {
     put_replayed(heap, book, table, ledger, page, buffer, file)
 }

@@ -10,35 +10,35 @@ pub record Terms (X : Type 0) : Type 0 where
   -- do two records have one key?
   pub alike : X → X → Bool
   -- does every field of a record lie in its range?
-  pub in-range : X → Bool
+  pub in_range : X → Bool
   -- are its account, node, hour and interconnection, those that it has, among the heading's?
   pub listed : Heading → X → Bool
   -- how many records the table holds at most
   pub room : ℕ
 
 -- where the first of these stands that passes the test
-abbrev pub first-place : {X : Type 0} → (X → Bool) → List X → Option ℕ
-first-place test [] = None
-first-place test (x ∷ xs) = cond (test x) (Some 0) (option_map suc (first-place test xs))
+abbrev pub first_place : {X : Type 0} → (X → Bool) → List X → Option ℕ
+first_place test [] = None
+first_place test (x ∷ xs) = cond (test x) (Some 0) (option_map suc (first_place test xs))
 
 -- a place in a list of this length, or none past its end
-abbrev pub place-within : ℕ → ℕ → Option ℕ
-place-within i n = cond (nat_lt i n) (Some i) None
+abbrev pub place_within : ℕ → ℕ → Option ℕ
+place_within i n = cond (nat_lt i n) (Some i) None
 
 -- why a record cannot follow these, if so: the first of the four reasons, in this order
-abbrev pub row-refusal : {X : Type 0} → Terms X → Heading → List X → X → Option Refusal
-row-refusal terms heading xs x =
-    cond (not (terms.in-range x)) (Some OutOfRange)
+abbrev pub row_refusal : {X : Type 0} → Terms X → Heading → List X → X → Option Refusal
+row_refusal terms heading xs x =
+    cond (not (terms.in_range x)) (Some OutOfRange)
     (cond (not (terms.listed heading x)) (Some AboveHeading)
-    (cond (is_some (first-place (terms.alike x) xs)) (Some KeyTaken)
+    (cond (is_some (first_place (terms.alike x) xs)) (Some KeyTaken)
     (cond (nat_le terms.room (length xs)) (Some TableFull) None)))
 
 -- each of the second list is taken after the first list and those before it
-abbrev pub taken-after : {X : Type 0} → Terms X → Heading → List X → List X → Bool
-taken-after terms heading before [] = true
-taken-after terms heading before (x ∷ xs) =
-    not (is_some (row-refusal terms heading before x)) && taken-after terms heading (before ++ x ∷ []) xs
+abbrev pub taken_after : {X : Type 0} → Terms X → Heading → List X → List X → Bool
+taken_after terms heading before [] = true
+taken_after terms heading before (x ∷ xs) =
+    not (is_some (row_refusal terms heading before x)) && taken_after terms heading (before ++ x ∷ []) xs
 
 -- an empty table would have taken these, in this order
-abbrev pub sound-table : {X : Type 0} → Terms X → Heading → List X → Bool
-sound-table terms heading xs = taken-after terms heading [] xs
+abbrev pub sound_table : {X : Type 0} → Terms X → Heading → List X → Bool
+sound_table terms heading xs = taken_after terms heading [] xs

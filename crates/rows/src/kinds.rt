@@ -1,6 +1,6 @@
 // The six kinds of record as rows of a table.
 ghost use Rattle.std.specs.Prelude.{◌≡◌};
-ghost use Rattle.rows.specs.Kinds.{energy-in-range, failure-terms, fine-in-range, fine-terms, interconnection-terms, kind-in-range, position-terms, price-in-range, price-terms, reserve-price-in-range, reserve-terms, unit-in-range};
+ghost use Rattle.rows.specs.Kinds.{energy_in_range, failure_terms, fine_in_range, fine_terms, interconnection_terms, kind_in_range, position_terms, price_in_range, price_terms, reserve_price_in_range, reserve_terms, unit_in_range};
 
 use crate::row::Row;
 use dayfile::heading::Heading;
@@ -30,43 +30,43 @@ pub const FINE_LIMIT: u64 = 1_000_000_000_000;
 
 // Is this a quantity of energy, in kWh, that a record may have?
 pub fn is_energy(kwh: u32) -> bool
-    ensures { result ≡ energy-in-range kwh }
+    ensures { result ≡ energy_in_range kwh }
 {
     kwh <= ENERGY_LIMIT
 }
 
 fn is_price(price: i32) -> bool
-    ensures { result ≡ price-in-range price }
+    ensures { result ≡ price_in_range price }
 {
     price >= -PRICE_LIMIT && price <= PRICE_LIMIT
 }
 
 fn is_reserve_price(price: u32) -> bool
-    ensures { result ≡ reserve-price-in-range price }
+    ensures { result ≡ reserve_price_in_range price }
 {
     price <= RESERVE_PRICE_LIMIT
 }
 
 fn is_fine(centavos: u64) -> bool
-    ensures { result ≡ fine-in-range centavos }
+    ensures { result ≡ fine_in_range centavos }
 {
     centavos >= 1 && centavos <= FINE_LIMIT
 }
 
 fn is_unit(unit: u8) -> bool
-    ensures { result ≡ unit-in-range unit }
+    ensures { result ≡ unit_in_range unit }
 {
     unit >= 1 && unit <= 64
 }
 
 fn is_kind(kind: u8) -> bool
-    ensures { result ≡ kind-in-range kind }
+    ensures { result ≡ kind_in_range kind }
 {
     kind >= 1 && kind <= 5
 }
 
 impl Row for Price {
-    ghost terms = { price-terms };
+    ghost terms = { price_terms };
 
     fn is_alike(&self, other: &Price) -> bool {
         self.node == other.node && self.hour == other.hour
@@ -86,7 +86,7 @@ impl Row for Price {
 }
 
 impl Row for Position {
-    ghost terms = { position-terms };
+    ghost terms = { position_terms };
 
     fn is_alike(&self, other: &Position) -> bool {
         self.account == other.account
@@ -113,7 +113,7 @@ impl Row for Position {
 }
 
 impl Row for Interconnection {
-    ghost terms = { interconnection-terms };
+    ghost terms = { interconnection_terms };
 
     fn is_alike(&self, other: &Interconnection) -> bool {
         self.interconnection == other.interconnection && self.hour == other.hour
@@ -144,7 +144,7 @@ impl Row for Interconnection {
 }
 
 impl Row for Reserve {
-    ghost terms = { reserve-terms };
+    ghost terms = { reserve_terms };
 
     fn is_alike(&self, other: &Reserve) -> bool {
         self.account == other.account
@@ -174,7 +174,7 @@ impl Row for Reserve {
 }
 
 impl Row for Failure {
-    ghost terms = { failure-terms };
+    ghost terms = { failure_terms };
 
     fn is_alike(&self, other: &Failure) -> bool {
         self.unit == other.unit && self.kind == other.kind
@@ -195,7 +195,7 @@ impl Row for Failure {
 }
 
 impl Row for Fine {
-    ghost terms = { fine-terms };
+    ghost terms = { fine_terms };
 
     fn is_alike(&self, other: &Fine) -> bool {
         self.identifier == other.identifier

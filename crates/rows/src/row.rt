@@ -15,7 +15,7 @@ pub trait Row {
 
     // Does every field lie in its range?
     fn is_in_range(&self) -> bool
-        ensures { result ≡ terms.in-range self.now };
+        ensures { result ≡ terms.in_range self.now };
 
     // Does the heading have its account, node, hour and interconnection?
     fn is_listed(&self, heading: &Heading) -> bool

@@ -6,25 +6,25 @@ use Rattle.std.specs.Str.Parse.{digits_value}
 use Rattle.std.specs.Char.{digit_value}
 
 -- every byte is a digit of the base
-abbrev pub in-digits : ℕ → List ℕ → Bool
-in-digits base [] = true
-in-digits base (c ∷ cs) = nat_lt (digit_value c) base && in-digits base cs
+abbrev pub in_digits : ℕ → List ℕ → Bool
+in_digits base [] = true
+in_digits base (c ∷ cs) = nat_lt (digit_value c) base && in_digits base cs
 
 -- the number that a word stands for: at least one decimal digit, and no more than the limit
-abbrev pub decimal-number : ℕ → List ℕ → Option ℕ
-decimal-number limit word = cond (nat_lt 0 (length word) && (in-digits 10 word && nat_le (digits_value 10 word) limit)) (Some (digits_value 10 word)) None
+abbrev pub decimal_number : ℕ → List ℕ → Option ℕ
+decimal_number limit word = cond (nat_lt 0 (length word) && (in_digits 10 word && nat_le (digits_value 10 word) limit)) (Some (digits_value 10 word)) None
 
 -- the byte at an index, two digits for each
-abbrev pub hex-byte : List ℕ → ℕ → ℕ
-hex-byte word index = digit_value (slice_index word (2 * index)) * 16 + digit_value (slice_index word (2 * index + 1))
+abbrev pub hex_byte : List ℕ → ℕ → ℕ
+hex_byte word index = digit_value (slice_index word (2 * index)) * 16 + digit_value (slice_index word (2 * index + 1))
 
-abbrev pub hex-bytes : List ℕ → List ℕ
-hex-bytes word = map (hex-byte word) (range_with_len 0 (length word / 2))
+abbrev pub hex_bytes : List ℕ → List ℕ
+hex_bytes word = map (hex_byte word) (range_with_len 0 (length word / 2))
 
 -- digits for at least one byte
-abbrev pub is-hex : List ℕ → Bool
-is-hex word = nat_lt 0 (length word) && (length word % 2 == 0 && in-digits 16 word)
+abbrev pub is_hex : List ℕ → Bool
+is_hex word = nat_lt 0 (length word) && (length word % 2 == 0 && in_digits 16 word)
 
 -- the bytes that a word stands for: none of them for a hyphen, byte 45
-abbrev pub hex-word : List ℕ → Option (List ℕ)
-hex-word word = cond (length word == 1 && slice_index word 0 == 45) (Some []) (cond (is-hex word) (Some (hex-bytes word)) None)
+abbrev pub hex_word : List ℕ → Option (List ℕ)
+hex_word word = cond (length word == 1 && slice_index word 0 == 45) (Some []) (cond (is_hex word) (Some (hex_bytes word)) None)

@@ -5,8 +5,8 @@ use Rattle.script.specs.declared.name.Name.{Name}
 use Rattle.script.specs.declared.name.Name.TheVariants.{Ledger, Buffer, Open, Load, LoadBytes, Enter, Close, Correct, Settle, Sheet, Issue, Statement, Reopen}
 
 -- calls on a day
-abbrev pub call-name : List ℕ → Option Name
-call-name word =
+abbrev pub call_name : List ℕ → Option Name
+call_name word =
     cond (bytes_eq word (codes "enter")) (Some Enter) (
     cond (bytes_eq word (codes "close")) (Some Close) (
     cond (bytes_eq word (codes "correct")) (Some Correct) (
@@ -25,4 +25,4 @@ name_of word =
     cond (bytes_eq word (codes "open")) (Some Open) (
     cond (bytes_eq word (codes "load")) (Some Load) (
     cond (bytes_eq word (codes "load-bytes")) (Some LoadBytes) (
-    call-name word)))))
+    call_name word)))))

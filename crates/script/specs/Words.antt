@@ -19,8 +19,8 @@ stops Letter b = not (blank b)
 abbrev pub before : Stop → List ℕ → ℕ
 before stop text = prefix_len (λ b. not (stops stop b)) text
 
-abbrev pub first-line : List ℕ → List ℕ
-first-line text = take (before LineEnd text) text
+abbrev pub first_line : List ℕ → List ℕ
+first_line text = take (before LineEnd text) text
 
 abbrev pub after_line : List ℕ → List ℕ
 after_line text = drop (suc (before LineEnd text)) text
@@ -35,14 +35,14 @@ unblanked text = drop (before Letter text) text
 abbrev pub first_word : List ℕ → List ℕ
 first_word text = take (before Blank (unblanked text)) (unblanked text)
 
-abbrev pub after-word : List ℕ → List ℕ
-after-word text = drop (before Blank (unblanked text)) (unblanked text)
+abbrev pub after_word : List ℕ → List ℕ
+after_word text = drop (before Blank (unblanked text)) (unblanked text)
 
 -- the words of a text, one after the other, as many as the first number at most
-abbrev pub words-within : ℕ → List ℕ → List (List ℕ)
-words-within zero text = []
-words-within (suc most) text = cond (length (first_word text) == 0) [] (first_word text ∷ words-within most (after-word text))
+abbrev pub words_within : ℕ → List ℕ → List (List ℕ)
+words_within zero text = []
+words_within (suc most) text = cond (length (first_word text) == 0) [] (first_word text ∷ words_within most (after_word text))
 
 -- the words of a line: a word has at least one byte, so that no line has more words than bytes
-abbrev pub line-words : List ℕ → List (List ℕ)
-line-words line = words-within (length (uncommented line)) (uncommented line)
+abbrev pub line_words : List ℕ → List (List ℕ)
+line_words line = words_within (length (uncommented line)) (uncommented line)

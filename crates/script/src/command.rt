@@ -1,6 +1,6 @@
 // What a line of a script asks for.
 ghost use Rattle.std.specs.Prelude.{◌≡◌};
-ghost use Rattle.script.specs.Digits.{decimal-number};
+ghost use Rattle.script.specs.Digits.{decimal_number};
 
 use crate::decimal::{byte, number};
 use crate::name::{Name, name_of};
@@ -36,7 +36,7 @@ pub enum Call<'a> {
 }
 
 fn room(word: &[u8]) -> Option<usize>
-    ensures { result ≡ decimal-number 1000000 word.now }
+    ensures { result ≡ decimal_number 1000000 word.now }
 {
     match number(word, MOST_ROOM) {
         Some(room) => Some(room as usize),

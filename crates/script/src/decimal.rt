@@ -2,7 +2,7 @@
 ghost use Rattle.std.specs.Prelude.{◌≡◌, ◌+◌, ◌*◌, ◌<◌, ◌≤◌, min};
 ghost use Rattle.std.specs.Str.Parse.{digits_value};
 ghost use Rattle.std.specs.Char.{digit_value};
-ghost use Rattle.script.specs.Digits.{decimal-number};
+ghost use Rattle.script.specs.Digits.{decimal_number};
 
 use crate::digits::{are_digits, digit_value};
 
@@ -30,7 +30,7 @@ fn value_up_to(word: &[u8], most: u64) -> u64
 // The number that a word of digits stands for, if it is no larger than the limit. Zeros may stand before it.
 pub fn number(word: &[u8], limit: u64) -> Option<u64>
     requires { limit < 1000000000000 }
-    ensures { result ≡ decimal-number limit word.now }
+    ensures { result ≡ decimal_number limit word.now }
 {
     if word.is_empty() || !are_digits(word, 10) {
         return None;
@@ -41,7 +41,7 @@ pub fn number(word: &[u8], limit: u64) -> Option<u64>
 
 // A number of one byte.
 pub fn byte(word: &[u8]) -> Option<u8>
-    ensures { result ≡ decimal-number 255 word.now }
+    ensures { result ≡ decimal_number 255 word.now }
 {
     match number(word, 255) {
         Some(value) => Some(value as u8),

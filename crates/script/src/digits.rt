@@ -1,7 +1,7 @@
 // Digits in any base up to 36.
 ghost use Rattle.std.specs.Prelude.{◌≡◌, ◌≤◌};
 ghost use Rattle.std.specs.Char.{digit_value};
-ghost use Rattle.script.specs.Digits.{in-digits};
+ghost use Rattle.script.specs.Digits.{in_digits};
 
 // What a digit stands for; 36 where it is none.
 pub fn digit_value(byte: u8) -> u8
@@ -18,7 +18,7 @@ pub fn digit_value(byte: u8) -> u8
 
 // Is every byte of the word a digit of the base?
 pub fn are_digits(word: &[u8], base: u8) -> bool
-    ensures { result ≡ in-digits base word.now }
+    ensures { result ≡ in_digits base word.now }
 {
     for byte in word {
         if digit_value(*byte) >= base {

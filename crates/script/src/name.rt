@@ -1,7 +1,7 @@
 // The names that the lines of a script begin with.
 ghost use Rattle.std.specs.Prelude.{◌≡◌};
 ghost use Rattle.std.specs.Str.{bytes_eq};
-ghost use Rattle.script.specs.Names.{call-name, name_of};
+ghost use Rattle.script.specs.Names.{call_name, name_of};
 
 #[derive(Clone, Copy)]
 pub enum Name {
@@ -28,7 +28,7 @@ fn is_word(word: &[u8], name: &[u8]) -> bool
 
 // A call on a day.
 fn call_name(word: &[u8]) -> Option<Name>
-    ensures { result ≡ call-name word.now }
+    ensures { result ≡ call_name word.now }
 {
     if is_word(word, b"enter") {
         return Some(Name::Enter);

@@ -3,7 +3,7 @@ ghost use Rattle.std.specs.Prelude.{◌≡◌, ◌+◌, ◌*◌, ◌≤◌, leng
 ghost use Rattle.codes.specs.Cells.{cell_at};
 ghost use Rattle.statement.specs.Statements.{last_line};
 ghost use Rattle.text.specs.Written.{Wrote};
-ghost use Rattle.script.specs.Sheets.{line_of, lines-in, lines-to, one_of, sheet-text};
+ghost use Rattle.script.specs.Sheets.{line_of, lines_in, lines_to, one_of, sheet_text};
 
 use codes::table::{CELLS, Table, TableCell};
 use statement::line::{amount_line_length, put_amount_line};
@@ -40,7 +40,7 @@ fn put_place(buffer: &mut [u8], at: usize, page: &Table, place: usize) -> usize
 // The lines of the first cells.
 fn put_lines(buffer: &mut [u8], page: &Table, count: usize) -> usize
     requires { 47 * count ≤ length buffer.old }
-    ensures wrote { Wrote buffer.old 0 (lines-to count page.now) buffer.new result }
+    ensures wrote { Wrote buffer.old 0 (lines_to count page.now) buffer.new result }
     ensures bound { result ≤ 47 * count }
 {
     let mut end = 0;
@@ -63,7 +63,7 @@ fn one_at(page: &Table, place: usize) -> usize
 
 // How many of the first cells have a line.
 fn count_lines(page: &Table, count: usize) -> usize
-    ensures { result ≡ lines-in count page.now }
+    ensures { result ≡ lines_in count page.now }
 {
     let mut lines = 0;
     for place in 0..count {
@@ -83,7 +83,7 @@ fn put_end(buffer: &mut [u8], at: usize, count: usize) -> usize
 // A line for each cell that is not 0, and a last line with their number. Answers the length of the text.
 pub fn put_sheet(buffer: &mut [u8], page: &Table) -> usize
     requires { 25029 ≤ length buffer.old }
-    ensures { Wrote buffer.old 0 (sheet-text page.now) buffer.new result }
+    ensures { Wrote buffer.old 0 (sheet_text page.now) buffer.new result }
 {
     let end = put_lines(buffer, page, CELLS);
     put_end(buffer, end, count_lines(page, CELLS))

@@ -1,6 +1,6 @@
 // The lines of a script, and the words of a line.
 ghost use Rattle.std.specs.Prelude.{◌≡◌, ◌<◌, ◌≤◌, map, length, IfOk, MatchOption};
-ghost use Rattle.script.specs.Words.{after_line, after-word, before, blank, first-line, first_word, line-words, stops, unblanked, uncommented};
+ghost use Rattle.script.specs.Words.{after_line, after_word, before, blank, first_line, first_word, line_words, stops, unblanked, uncommented};
 
 use std::alloc::{AllocError, Global};
 
@@ -46,7 +46,7 @@ fn length_before(text: &[u8], stop: Stop) -> usize
 
 // The first line, without its end, and what follows it.
 pub fn cut_line(text: &[u8]) -> (&[u8], &[u8])
-    ensures line { result.0.now ≡ first-line text.now }
+    ensures line { result.0.now ≡ first_line text.now }
     ensures rest { result.1.now ≡ after_line text.now }
     ensures less { 0 < length text.now → length result.1.now < length text.now }
 {
@@ -75,7 +75,7 @@ fn without_blanks(text: &[u8]) -> &[u8]
 
 // The first word, and what follows it; none where there are only blanks.
 pub fn cut_word(text: &[u8]) -> Option<(&[u8], &[u8])>
-    ensures { MatchOption result (length (first_word text.now) ≡ 0) (λ cut. (0 < length (first_word text.now)) × (cut.0.now ≡ first_word text.now) × (cut.1.now ≡ after-word text.now) × (length cut.1.now < length text.now)) }
+    ensures { MatchOption result (length (first_word text.now) ≡ 0) (λ cut. (0 < length (first_word text.now)) × (cut.0.now ≡ first_word text.now) × (cut.1.now ≡ after_word text.now) × (length cut.1.now < length text.now)) }
 {
     let rest = without_blanks(text);
     let length = length_before(rest, Stop::Blank);
@@ -88,7 +88,7 @@ pub fn cut_word(text: &[u8]) -> Option<(&[u8], &[u8])>
 
 // The words of a line, in order.
 pub fn words_of<'a>(heap: Global, line: &'a [u8]) -> Result<Vec<&'a [u8]>, AllocError>
-    ensures { IfOk result (λ v. map (λ word. word.now) v.items ≡ line-words line.now) }
+    ensures { IfOk result (λ v. map (λ word. word.now) v.items ≡ line_words line.now) }
 {
     let mut words = Vec::new(heap);
     let mut rest = before_comment(line);

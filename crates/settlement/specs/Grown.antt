@@ -28,8 +28,8 @@ abbrev pub Room : Table → Type 0
 Room t = (code : Code) → RoomIn t code
 
 -- the amounts of a list, for the accounts from 1 on
-abbrev pub listed-amount : List ℤ → ℕ → ℤ
-listed-amount xs party = cond (nat_le 1 party && nat_le party (length xs)) (slice_index_or xs (party - 1) (pos 0)) (pos 0)
+abbrev pub listed_amount : List ℤ → ℕ → ℤ
+listed_amount xs party = cond (nat_le 1 party && nat_le party (length xs)) (slice_index_or xs (party - 1) (pos 0)) (pos 0)
 
 -- each account's penalties, account 1 first
 pub record Penalized (r : Records) (xs : List ℤ) : Type 0 where

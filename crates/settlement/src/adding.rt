@@ -2,11 +2,11 @@
 ghost use Rattle.std.specs.Prelude.{◌≡◌, ℕ, ◌<◌, ◌≤◌, true, length, ℤ, pos, is_some, slice_index_or, unsigned_abs};
 ghost use Rattle.std.specs.List.{AllByRecursion as All};
 ghost use Rattle.codes.specs.Cells.{cell};
-ghost use Rattle.codes.specs.Parties.{party-place, system-party};
+ghost use Rattle.codes.specs.Parties.{party_place, system_party};
 ghost use Rattle.codes.specs.Sums.{sum_over};
 ghost use Rattle.valuation.specs.Valid.{ValidInterconnection};
 ghost use Rattle.amounts.specs.Amounts.{owned_by};
-ghost use Rattle.settlement.specs.Grown.{Added, RoomIn, RowAdded, listed-amount};
+ghost use Rattle.settlement.specs.Grown.{Added, RoomIn, RowAdded, listed_amount};
 
 use amounts::sums::Term;
 use codes::code::Code;
@@ -15,7 +15,7 @@ use dayfile::record::{Fine, Interconnection, Position, Reserve};
 
 // Adds to one cell.
 pub(crate) fn add(table: &mut Table, code: Code, party: u8, amount: i64)
-    requires known { is_some (party-place party) ≡ true }
+    requires known { is_some (party_place party) ≡ true }
     requires before { unsigned_abs (cell table.old code party) ≤ 2000000000000000000 }
     requires more { unsigned_abs amount ≤ 1000000000000000000 }
     ensures { Added table.old table.new code party amount }
@@ -34,7 +34,7 @@ pub(crate) trait Payee<X> {
     fn payee(&self, x: &X) -> u8
         requires { listed self.now x.now }
         ensures value { result ≡ party self.now x.now }
-        ensures known { is_some (party-place result) ≡ true };
+        ensures known { is_some (party_place result) ≡ true };
 }
 
 // Adds each record's amount to its party's cell under a code, in one pass.
@@ -61,7 +61,7 @@ pub(crate) fn add_listed(amounts: &[i64], code: Code, table: &mut Table)
     requires few { length amounts.now ≤ 32 }
     requires small { (k : ℕ) → k < length amounts.now → unsigned_abs (slice_index_or amounts.now k (pos 0)) ≤ 100000000000000000 }
     requires room { RoomIn table.old code }
-    ensures { RowAdded table.old table.new code (listed-amount amounts.now) }
+    ensures { RowAdded table.old table.new code (listed_amount amounts.now) }
 {
     for i in 0..amounts.len() {
         add(table, code, i as u8 + 1, amounts[i]);
@@ -73,7 +73,7 @@ fn account_party(account: u8) -> u8
     requires low { 1 ≤ account }
     requires high { account ≤ 32 }
     ensures value { result ≡ account }
-    ensures known { is_some (party-place result) ≡ true }
+    ensures known { is_some (party_place result) ≡ true }
 {
     account
 }
@@ -81,8 +81,8 @@ fn account_party(account: u8) -> u8
 fn system_party(system: u8) -> u8
     requires low { 1 ≤ system }
     requires high { system ≤ 4 }
-    ensures value { result ≡ system-party system }
-    ensures known { is_some (party-place result) ≡ true }
+    ensures value { result ≡ system_party system }
+    ensures known { is_some (party_place result) ≡ true }
 {
     40 + system
 }
@@ -126,7 +126,7 @@ impl Payee<Fine> for ItsAccount {
 pub(crate) struct ItsSystem;
 
 impl Payee<Interconnection> for ItsSystem {
-    ghost party = { λ s x. system-party x.system };
+    ghost party = { λ s x. system_party x.system };
 
     ghost listed = { λ s x. ValidInterconnection x };
 

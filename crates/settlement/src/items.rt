@@ -3,12 +3,12 @@ ghost use Rattle.std.specs.Prelude.{◌≡◌, ℕ, ◌+◌, ◌<◌, ◌≤◌,
 ghost use Rattle.book.specs.Books.{held};
 ghost use Rattle.codes.specs.Sums.{sum_over};
 ghost use Rattle.codes.specs.declared.code.Code.{Code};
-ghost use Rattle.valuation.specs.Terms.{fine-mils};
+ghost use Rattle.valuation.specs.Terms.{fine_mils};
 ghost use Rattle.valuation.specs.Valid.{Sound, ValidFine};
-ghost use Rattle.items.specs.Items.{all-fines, all-penalties, fines, penalties};
+ghost use Rattle.items.specs.Items.{all_fines, all_penalties, fines, penalties};
 ghost use Rattle.settlement.specs.Days.{item, items};
 ghost use Rattle.settlement.specs.Grown.{Grown, Penalized, Room, RoomIn, RowAdded};
-ghost use Rattle.settlement.specs.Sheets.{amount-of, to-accounts, to-universal-service, to-working-capital};
+ghost use Rattle.settlement.specs.Sheets.{amount_of, to_accounts, to_universal_service, to_working_capital};
 
 use crate::adding::{ItsAccount, add, add_each, add_listed};
 use crate::shared::code_at;
@@ -25,7 +25,7 @@ use valuation::terms::fine_mils;
 struct FineCharge;
 
 impl Term<Fine> for FineCharge {
-    ghost adds = { λ s x. neg_ℤ (fine-mils x) };
+    ghost adds = { λ s x. neg_ℤ (fine_mils x) };
 
     ghost valid = { λ s x. ValidFine x };
 
@@ -39,7 +39,7 @@ impl Term<Fine> for FineCharge {
 struct FinePayment;
 
 impl Term<Fine> for FinePayment {
-    ghost adds = { λ s x. fine-mils x };
+    ghost adds = { λ s x. fine_mils x };
 
     ghost valid = { λ s x. ValidFine x };
 
@@ -51,14 +51,14 @@ impl Term<Fine> for FinePayment {
 fn add_fines(book: &Book, code: Code, table: &mut Table)
     requires sound { Sound (held book.now) }
     requires room { RoomIn table.old code }
-    ensures { RowAdded table.old table.new code (amount-of book.now.heading.accounts (to-accounts (λ account. neg_ℤ (fines (held book.now) account)))) }
+    ensures { RowAdded table.old table.new code (amount_of book.now.heading.accounts (to_accounts (λ account. neg_ℤ (fines (held book.now) account)))) }
 {
     add_each(&ItsAccount, &FineCharge, book.fines.as_slice(), code, table);
 }
 
 fn total_fines(book: &Book) -> i64
     requires { Sound (held book.now) }
-    ensures value { result ≡ all-fines (held book.now) }
+    ensures value { result ≡ all_fines (held book.now) }
     ensures bound { unsigned_abs result ≤ 50000000000000000 }
 {
     sum_of(&FinePayment, book.fines.as_slice())
@@ -67,7 +67,7 @@ fn total_fines(book: &Book) -> i64
 fn pay_fines(book: &Book, code: Code, table: &mut Table)
     requires sound { Sound (held book.now) }
     requires room { RoomIn table.old code }
-    ensures { RowAdded table.old table.new code (amount-of book.now.heading.accounts (to-universal-service (all-fines (held book.now)))) }
+    ensures { RowAdded table.old table.new code (amount_of book.now.heading.accounts (to_universal_service (all_fines (held book.now)))) }
 {
     add(table, code, UNIVERSAL_SERVICE_FUND, total_fines(book));
 }
@@ -107,7 +107,7 @@ fn charge_penalties(
     requires penalized { Penalized (held book.now) charged.now }
     requires places { length charges.old ≡ book.now.heading.accounts }
     requires room { RoomIn table.old code }
-    ensures { RowAdded table.old table.new code (amount-of book.now.heading.accounts (to-accounts (λ account. neg_ℤ (penalties (held book.now) account)))) }
+    ensures { RowAdded table.old table.new code (amount_of book.now.heading.accounts (to_accounts (λ account. neg_ℤ (penalties (held book.now) account)))) }
 {
     negate(charged, charges);
     add_listed(charges, code, table);
@@ -118,7 +118,7 @@ fn pay_penalties(book: &Book, charged: &[i64], code: Code, table: &mut Table)
     requires sound { Sound (held book.now) }
     requires penalized { Penalized (held book.now) charged.now }
     requires room { RoomIn table.old code }
-    ensures { RowAdded table.old table.new code (amount-of book.now.heading.accounts (to-working-capital (all-penalties (held book.now)))) }
+    ensures { RowAdded table.old table.new code (amount_of book.now.heading.accounts (to_working_capital (all_penalties (held book.now)))) }
 {
     add(table, code, WORKING_CAPITAL_FUND, total_of(charged));
 }

@@ -4,7 +4,7 @@ ghost use Rattle.book.specs.Books.{held};
 ghost use Rattle.valuation.specs.Valid.{Sound};
 ghost use Rattle.amounts.specs.Amounts.{energy, imbalance, reserve};
 ghost use Rattle.settlement.specs.Grown.{RoomIn, RowAdded};
-ghost use Rattle.settlement.specs.Sheets.{amount-of, own, to-accounts, to-systems};
+ghost use Rattle.settlement.specs.Sheets.{amount_of, own, to_accounts, to_systems};
 
 use crate::adding::{ItsAccount, ItsSystem, add_each};
 use amounts::scope::{EnergyOf, ImbalanceOf, ReserveOf};
@@ -25,7 +25,7 @@ fn add_energy<'a>(
     requires sound { Sound (held book.now) }
     requires priced { prices.now.prices.now ≡ (held book.now).prices }
     requires room { RoomIn table.old code }
-    ensures { RowAdded table.old table.new code (amount-of book.now.heading.accounts (to-accounts (energy (held book.now) market hour))) }
+    ensures { RowAdded table.old table.new code (amount_of book.now.heading.accounts (to_accounts (energy (held book.now) market hour))) }
 {
     let term = EnergyOf {
         prices,
@@ -38,7 +38,7 @@ fn add_energy<'a>(
 fn add_reserve(book: &Book, market: Market, hour: u8, code: Code, table: &mut Table)
     requires sound { Sound (held book.now) }
     requires room { RoomIn table.old code }
-    ensures { RowAdded table.old table.new code (amount-of book.now.heading.accounts (to-accounts (reserve (held book.now) market hour))) }
+    ensures { RowAdded table.old table.new code (amount_of book.now.heading.accounts (to_accounts (reserve (held book.now) market hour))) }
 {
     let term = ReserveOf { market, hour };
     add_each(&ItsAccount, &term, book.reserves.as_slice(), code, table);
@@ -47,7 +47,7 @@ fn add_reserve(book: &Book, market: Market, hour: u8, code: Code, table: &mut Ta
 fn add_imbalance(book: &Book, hour: u8, code: Code, table: &mut Table)
     requires sound { Sound (held book.now) }
     requires room { RoomIn table.old code }
-    ensures { RowAdded table.old table.new code (amount-of book.now.heading.accounts (to-systems (λ system. neg_ℤ (imbalance (held book.now) hour system)))) }
+    ensures { RowAdded table.old table.new code (amount_of book.now.heading.accounts (to_systems (λ system. neg_ℤ (imbalance (held book.now) hour system)))) }
 {
     let term = ImbalanceOf { hour };
     add_each(
@@ -70,7 +70,7 @@ pub(crate) fn add_own<'a>(
     requires sound { Sound (held book.now) }
     requires priced { prices.now.prices.now ≡ (held book.now).prices }
     requires room { RoomIn table.old code }
-    ensures { RowAdded table.old table.new code (amount-of book.now.heading.accounts (own (held book.now) hour code)) }
+    ensures { RowAdded table.old table.new code (amount_of book.now.heading.accounts (own (held book.now) hour code)) }
 {
     match code {
         Code::A1 => add_energy(book, prices, Market::DayAhead, hour, code, table),

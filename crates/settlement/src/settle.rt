@@ -1,12 +1,12 @@
 // Settling a day.
 ghost use Rattle.std.specs.Prelude.{◌≡◌, ℕ, ◌<◌, ◌≤◌, true, false, length, None};
 ghost use Rattle.book.specs.Books.{held};
-ghost use Rattle.book.specs.Soundness.{sound-records};
-ghost use Rattle.codes.specs.Cells.{empty-cells};
+ghost use Rattle.book.specs.Soundness.{sound_records};
+ghost use Rattle.codes.specs.Cells.{empty_cells};
 ghost use Rattle.codes.specs.declared.code.Code.{Code};
 ghost use Rattle.valuation.specs.Valid.{Sound};
-ghost use Rattle.amounts.specs.Amounts.{first-lacking, lacking, scopes};
-ghost use Rattle.settlement.specs.Days.{Filled, Holds, day-cell, lacking-fault, outcome, settle-refusal, sheets};
+ghost use Rattle.amounts.specs.Amounts.{first_lacking, lacking, scopes};
+ghost use Rattle.settlement.specs.Days.{Filled, Holds, day_cell, lacking_fault, outcome, settle_refusal, sheets};
 ghost use Rattle.settlement.specs.Grown.{Penalized};
 
 use crate::items::add_items;
@@ -27,7 +27,7 @@ fn first_lacking<'a>(book: &Book, prices: &'a PriceGrid<'a>, purchases: &mut [u6
     requires sound { Sound (held book.now) }
     requires priced { prices.now.prices.now ≡ (held book.now).prices }
     requires weights { length purchases.old ≡ book.now.heading.accounts }
-    ensures { result ≡ first-lacking (held book.now) }
+    ensures { result ≡ first_lacking (held book.now) }
 {
     for h in 0..book.heading.hours {
         put_weights(book, h + 1, purchases);
@@ -49,10 +49,10 @@ fn add_sheets<'a, R: Sharing>(
 )
     requires sound { Sound (held book.now) }
     requires priced { prices.now.prices.now ≡ (held book.now).prices }
-    requires borne { first-lacking (held book.now) ≡ None }
+    requires borne { first_lacking (held book.now) ≡ None }
     requires weights { length purchases.old ≡ book.now.heading.accounts }
     requires places { length shares.old ≡ book.now.heading.accounts }
-    requires empty { table.old.cells ≡ empty-cells }
+    requires empty { table.old.cells ≡ empty_cells }
     ensures { Holds table.new (sheets (R.Sharing.parts rule.now) (held book.now) (scopes book.now.heading)) }
 {
     for h in 0..book.heading.hours {
@@ -91,8 +91,8 @@ fn settle_with<'a, R: Sharing>(
     requires weights { length purchases.old ≡ book.now.heading.accounts }
     requires places { length shares.old ≡ book.now.heading.accounts }
     requires charges { length charged.old ≡ book.now.heading.accounts }
-    ensures value { result ≡ outcome (lacking-fault (first-lacking (held book.now))) }
-    ensures after { Filled (lacking-fault (first-lacking (held book.now))) table.old table.new (day-cell (R.Sharing.parts rule.now) (held book.now)) }
+    ensures value { result ≡ outcome (lacking_fault (first_lacking (held book.now))) }
+    ensures after { Filled (lacking_fault (first_lacking (held book.now))) table.old table.new (day_cell (R.Sharing.parts rule.now) (held book.now)) }
 {
     match first_lacking(book, prices, purchases) {
         Some(hour) => Err(Fault::new(Refusal::NoPurchases, Place::new(0, 0, hour))),
@@ -114,8 +114,8 @@ fn settle_at<'a, R: Sharing>(
 ) -> Result<(), Fault>
     requires sound { Sound (held book.now) }
     requires priced { prices.now.prices.now ≡ (held book.now).prices }
-    ensures value { result ≡ outcome (lacking-fault (first-lacking (held book.now))) }
-    ensures after { Filled (lacking-fault (first-lacking (held book.now))) table.old table.new (day-cell (R.Sharing.parts rule.now) (held book.now)) }
+    ensures value { result ≡ outcome (lacking_fault (first_lacking (held book.now))) }
+    ensures after { Filled (lacking_fault (first_lacking (held book.now))) table.old table.new (day_cell (R.Sharing.parts rule.now) (held book.now)) }
 {
     let n = book.heading.accounts as usize;
     let mut purchases = [0u64; ACCOUNTS];
@@ -134,8 +134,8 @@ fn settle_at<'a, R: Sharing>(
 
 fn settle_priced<R: Sharing>(book: &Book, rule: &R, table: &mut Table) -> Result<(), Fault>
     requires { Sound (held book.now) }
-    ensures value { result ≡ outcome (lacking-fault (first-lacking (held book.now))) }
-    ensures after { Filled (lacking-fault (first-lacking (held book.now))) table.old table.new (day-cell (R.Sharing.parts rule.now) (held book.now)) }
+    ensures value { result ≡ outcome (lacking_fault (first_lacking (held book.now))) }
+    ensures after { Filled (lacking_fault (first_lacking (held book.now))) table.old table.new (day_cell (R.Sharing.parts rule.now) (held book.now)) }
 {
     let prices = PriceGrid::of(book.prices.as_slice());
     settle_at(book, &prices, rule, table)
@@ -143,9 +143,9 @@ fn settle_priced<R: Sharing>(book: &Book, rule: &R, table: &mut Table) -> Result
 
 // Fills the table of a day under a rule; or refuses, and leaves the table as it was.
 pub fn settle<R: Sharing>(book: &Book, rule: &R, table: &mut Table) -> Result<(), Fault>
-    requires { sound-records (held book.now) ≡ true }
-    ensures value { result ≡ outcome (settle-refusal (held book.now)) }
-    ensures after { Filled (settle-refusal (held book.now)) table.old table.new (day-cell (R.Sharing.parts rule.now) (held book.now)) }
+    requires { sound_records (held book.now) ≡ true }
+    ensures value { result ≡ outcome (settle_refusal (held book.now)) }
+    ensures after { Filled (settle_refusal (held book.now)) table.old table.new (day_cell (R.Sharing.parts rule.now) (held book.now)) }
 {
     if let Some(place) = first_unpriced(book) {
         return Err(Fault::new(Refusal::NoPrice, place));

@@ -3,13 +3,13 @@ ghost use Rattle.std.specs.Prelude.{◌≡◌, ℕ, ◌<◌, ◌≤◌, true, fa
 ghost use Rattle.sharing.specs.Shareable.{shareable};
 ghost use Rattle.sharing.specs.Signed.{signed_parts};
 ghost use Rattle.book.specs.Books.{held};
-ghost use Rattle.codes.specs.Codes.{basis-of, code_at, code-count};
+ghost use Rattle.codes.specs.Codes.{basis_of, code_at, code_count};
 ghost use Rattle.codes.specs.Sums.{sum_over};
 ghost use Rattle.codes.specs.declared.code.Basis.TheVariants.{Purchases};
 ghost use Rattle.valuation.specs.Valid.{Sound};
-ghost use Rattle.amounts.specs.Amounts.{accounts, energy, exchange, lacking, lacks, reserve, shared, value-of-imbalance, weights};
+ghost use Rattle.amounts.specs.Amounts.{accounts, energy, exchange, lacking, lacks, reserve, shared, value_of_imbalance, weights};
 ghost use Rattle.settlement.specs.Grown.{RoomIn, RowAdded};
-ghost use Rattle.settlement.specs.Sheets.{amount-of, part, to-accounts};
+ghost use Rattle.settlement.specs.Sheets.{amount_of, part, to_accounts};
 
 use crate::adding::add_listed;
 use amounts::scope::{EnergyOf, ExchangeOf, ImbalanceValueOf, ReserveOf};
@@ -64,7 +64,7 @@ fn exchange_total<'a>(book: &Book, prices: &'a PriceGrid<'a>, market: Market, ho
 fn imbalance_total<'a>(book: &Book, prices: &'a PriceGrid<'a>, hour: u8) -> i64
     requires sound { Sound (held book.now) }
     requires priced { prices.now.prices.now ≡ (held book.now).prices }
-    ensures value { result ≡ value-of-imbalance (held book.now) hour }
+    ensures value { result ≡ value_of_imbalance (held book.now) hour }
     ensures bound { unsigned_abs result ≤ 44000000000000000 }
 {
     let term = ImbalanceValueOf { prices, hour };
@@ -132,7 +132,7 @@ fn lacks_weight<'a>(
 
 // The code at a place of the table of codes.
 pub(crate) fn code_at(place: usize) -> Code
-    requires { place < code-count }
+    requires { place < code_count }
     ensures { result ≡ code_at place }
 {
     CODES[place].code
@@ -178,14 +178,14 @@ pub(crate) fn add_shared<'a, R: Sharing>(
     code: Code,
     table: &mut Table,
 )
-    requires basis { basis-of code ≡ Purchases }
+    requires basis { basis_of code ≡ Purchases }
     requires sound { Sound (held book.now) }
     requires priced { prices.now.prices.now ≡ (held book.now).prices }
     requires weighed { purchases.now ≡ weights Purchases (held book.now) hour }
     requires borne { lacks (held book.now) hour code ≡ false }
     requires places { length shares.old ≡ book.now.heading.accounts }
     requires room { RoomIn table.old code }
-    ensures { RowAdded table.old table.new code (amount-of book.now.heading.accounts (to-accounts (part (R.Sharing.parts rule.now) (held book.now) hour code))) }
+    ensures { RowAdded table.old table.new code (amount_of book.now.heading.accounts (to_accounts (part (R.Sharing.parts rule.now) (held book.now) hour code))) }
 {
     share_out(
         rule,

@@ -1,12 +1,12 @@
 // The sheet of an hour.
 ghost use Rattle.std.specs.Prelude.{◌≡◌, ℕ, ◌≤◌, true, false, length, if◌then◌else◌, Some, None};
 ghost use Rattle.book.specs.Books.{held};
-ghost use Rattle.book.specs.Soundness.{sound-records};
+ghost use Rattle.book.specs.Soundness.{sound_records};
 ghost use Rattle.codes.specs.declared.code.Basis.TheVariants.{Purchases};
 ghost use Rattle.codes.specs.declared.code.Code.{Code};
 ghost use Rattle.valuation.specs.Valid.{Sound};
 ghost use Rattle.amounts.specs.Amounts.{lacking, lacks, weights};
-ghost use Rattle.settlement.specs.Days.{Filled, no-purchases, outcome, sheet-refusal};
+ghost use Rattle.settlement.specs.Days.{Filled, no_purchases, outcome, sheet_refusal};
 ghost use Rattle.settlement.specs.Grown.{Grown, Room, RoomIn, RowAdded};
 ghost use Rattle.settlement.specs.Sheets.{sheet};
 
@@ -103,8 +103,8 @@ fn fill_with<'a, R: Sharing>(
     requires priced { prices.now.prices.now ≡ (held book.now).prices }
     requires weights { length purchases.old ≡ book.now.heading.accounts }
     requires places { length shares.old ≡ book.now.heading.accounts }
-    ensures value { result ≡ outcome (if lacking (held book.now) hour then Some (no-purchases hour) else None) }
-    ensures after { Filled (if lacking (held book.now) hour then Some (no-purchases hour) else None) table.old table.new (sheet (R.Sharing.parts rule.now) (held book.now) hour) }
+    ensures value { result ≡ outcome (if lacking (held book.now) hour then Some (no_purchases hour) else None) }
+    ensures after { Filled (if lacking (held book.now) hour then Some (no_purchases hour) else None) table.old table.new (sheet (R.Sharing.parts rule.now) (held book.now) hour) }
 {
     put_weights(book, hour, purchases);
     if is_lacking(book, prices, hour, purchases) {
@@ -124,8 +124,8 @@ fn fill_at<'a, R: Sharing>(
 ) -> Result<(), Fault>
     requires sound { Sound (held book.now) }
     requires priced { prices.now.prices.now ≡ (held book.now).prices }
-    ensures value { result ≡ outcome (if lacking (held book.now) hour then Some (no-purchases hour) else None) }
-    ensures after { Filled (if lacking (held book.now) hour then Some (no-purchases hour) else None) table.old table.new (sheet (R.Sharing.parts rule.now) (held book.now) hour) }
+    ensures value { result ≡ outcome (if lacking (held book.now) hour then Some (no_purchases hour) else None) }
+    ensures after { Filled (if lacking (held book.now) hour then Some (no_purchases hour) else None) table.old table.new (sheet (R.Sharing.parts rule.now) (held book.now) hour) }
 {
     let n = book.heading.accounts as usize;
     let mut purchases = [0u64; ACCOUNTS];
@@ -143,8 +143,8 @@ fn fill_at<'a, R: Sharing>(
 
 fn fill_priced<R: Sharing>(book: &Book, hour: u8, rule: &R, table: &mut Table) -> Result<(), Fault>
     requires { Sound (held book.now) }
-    ensures value { result ≡ outcome (if lacking (held book.now) hour then Some (no-purchases hour) else None) }
-    ensures after { Filled (if lacking (held book.now) hour then Some (no-purchases hour) else None) table.old table.new (sheet (R.Sharing.parts rule.now) (held book.now) hour) }
+    ensures value { result ≡ outcome (if lacking (held book.now) hour then Some (no_purchases hour) else None) }
+    ensures after { Filled (if lacking (held book.now) hour then Some (no_purchases hour) else None) table.old table.new (sheet (R.Sharing.parts rule.now) (held book.now) hour) }
 {
     let prices = PriceGrid::of(book.prices.as_slice());
     fill_at(book, &prices, hour, rule, table)
@@ -157,9 +157,9 @@ pub fn fill_sheet<R: Sharing>(
     rule: &R,
     table: &mut Table,
 ) -> Result<(), Fault>
-    requires { sound-records (held book.now) ≡ true }
-    ensures value { result ≡ outcome (sheet-refusal (held book.now) hour) }
-    ensures after { Filled (sheet-refusal (held book.now) hour) table.old table.new (sheet (R.Sharing.parts rule.now) (held book.now) hour) }
+    requires { sound_records (held book.now) ≡ true }
+    ensures value { result ≡ outcome (sheet_refusal (held book.now) hour) }
+    ensures after { Filled (sheet_refusal (held book.now) hour) table.old table.new (sheet (R.Sharing.parts rule.now) (held book.now) hour) }
 {
     if hour == 0 {
         return Err(Fault::new(Refusal::OutOfRange, Place::new(0, 0, hour)));

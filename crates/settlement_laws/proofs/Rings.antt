@@ -18,15 +18,15 @@ down n b c h =
 none : (b c : ℤ) → (pos 0 +ℤ b) *ℤ c ≡ pos 0 *ℤ c +ℤ b *ℤ c
 none b c = ap (λ z. z *ℤ c) (+ℤ_idl b) ∙ sym (ap (λ z. z +ℤ b *ℤ c) (zero-*ℤ c) ∙ +ℤ_idl (b *ℤ c))
 
-pub add-mulℤ : (a b c : ℤ) → (a +ℤ b) *ℤ c ≡ a *ℤ c +ℤ b *ℤ c
-add-mulℤ (pos zero) b c = none b c
-add-mulℤ (pos (suc n)) b c = up (pos n) b c (add-mulℤ (pos n) b c)
-add-mulℤ (negsuc zero) b c = down (pos 0) b c (none b c)
-add-mulℤ (negsuc (suc n)) b c = down (negsuc n) b c (add-mulℤ (negsuc n) b c)
+pub add_mulℤ : (a b c : ℤ) → (a +ℤ b) *ℤ c ≡ a *ℤ c +ℤ b *ℤ c
+add_mulℤ (pos zero) b c = none b c
+add_mulℤ (pos (suc n)) b c = up (pos n) b c (add_mulℤ (pos n) b c)
+add_mulℤ (negsuc zero) b c = down (pos 0) b c (none b c)
+add_mulℤ (negsuc (suc n)) b c = down (negsuc n) b c (add_mulℤ (negsuc n) b c)
 
-pub mul-subℤ : (a b c : ℤ) → a *ℤ (b -ℤ c) ≡ a *ℤ b -ℤ a *ℤ c
-mul-subℤ a b c =
-    let e : (b -ℤ c) *ℤ a +ℤ c *ℤ a ≡ b *ℤ a = sym (add-mulℤ (b -ℤ c) c a) ∙ ap (λ z. z *ℤ a) (-ℤ-+ℤ_cancel b c) in
+pub mul_subℤ : (a b c : ℤ) → a *ℤ (b -ℤ c) ≡ a *ℤ b -ℤ a *ℤ c
+mul_subℤ a b c =
+    let e : (b -ℤ c) *ℤ a +ℤ c *ℤ a ≡ b *ℤ a = sym (add_mulℤ (b -ℤ c) c a) ∙ ap (λ z. z *ℤ a) (-ℤ-+ℤ_cancel b c) in
     let f = *ℤ_comm a (b -ℤ c) in
     let g = *ℤ_comm a b in
     let h = *ℤ_comm a c in

@@ -5,14 +5,14 @@ use Rattle.std.proofs.lemmas.List.{ext_get_or}
 use Rattle.std.proofs.lemmas.Bool.{and_from, and_parts, eq-eqb, eqb-true, le-leb, leb-true, lt-ltb, ltb-true, or_cases, or_left, or_right}
 use Rattle.faults.specs.declared.fault.Fault.{Fault}
 use Rattle.sharing.specs.Fair.{Fair}
-use Rattle.sharing.specs.Limits.{most-amount, most-places, most-weight}
-use Rattle.sharing.specs.Shareable.{admitted, not-shareable, share-answer, share-leaves, shareable, total-answer}
+use Rattle.sharing.specs.Limits.{most_amount, most_places, most_weight}
+use Rattle.sharing.specs.Shareable.{admitted, not_shareable, share_answer, share_leaves, shareable, total_answer}
 
 pub record Facts (amount : ℕ) (weights : List ℕ) : Type 0 where
   pub some : 1 ≤ length weights
-  pub few : length weights ≤ most-places
-  pub small : amount ≤ most-amount
-  pub light : sum weights ≤ most-weight
+  pub few : length weights ≤ most_places
+  pub small : amount ≤ most_amount
+  pub light : sum weights ≤ most_weight
   pub borne : sum weights ≡ 0 → amount ≡ 0
 
 pub by_zero : {P : Type 0} (n : ℕ) → (n ≡ 0 → P) → (0 < n → P) → P
@@ -23,15 +23,15 @@ pub facts : (amount : ℕ) (weights : List ℕ) → shareable amount weights ≡
 facts amount weights s =
     let n = length weights in
     let w = sum weights in
-    let halves = and_parts (nat_le 1 n && (nat_le n most-places && nat_le amount most-amount)) (nat_le w most-weight && (nat_lt 0 w || amount == 0)) s in
-    let first = and_parts (nat_le 1 n) (nat_le n most-places && nat_le amount most-amount) halves.0 in
-    let second = and_parts (nat_le n most-places) (nat_le amount most-amount) first.1 in
-    let third = and_parts (nat_le w most-weight) (nat_lt 0 w || amount == 0) halves.1 in
+    let halves = and_parts (nat_le 1 n && (nat_le n most_places && nat_le amount most_amount)) (nat_le w most_weight && (nat_lt 0 w || amount == 0)) s in
+    let first = and_parts (nat_le 1 n) (nat_le n most_places && nat_le amount most_amount) halves.0 in
+    let second = and_parts (nat_le n most_places) (nat_le amount most_amount) first.1 in
+    let third = and_parts (nat_le w most_weight) (nat_lt 0 w || amount == 0) halves.1 in
     record {
       some = leb-true 1 n first.0;
-      few = leb-true n most-places second.0;
-      small = leb-true amount most-amount second.1;
-      light = leb-true w most-weight third.0;
+      few = leb-true n most_places second.0;
+      small = leb-true amount most_amount second.1;
+      light = leb-true w most_weight third.0;
       borne = λ z. ⊎_elim (λ (b : ltb 0 w ≡ true). absurd (omega (arith, ltb-true 0 w b))) (λ (b : nat_eq amount 0 ≡ true). eqb-true amount 0 b) (or_cases (nat_lt 0 w) (amount == 0) third.1);
     }
 
@@ -42,19 +42,19 @@ shared amount weights f =
     let borne : (nat_lt 0 w || amount == 0) ≡ true = by_zero w
     (λ z. or_right (nat_lt 0 w) (amount == 0) (eq-eqb amount 0 (f.borne z)))
     (λ p. or_left (nat_lt 0 w) (amount == 0) (lt-ltb 0 w p)) in
-    and_from (nat_le 1 n && (nat_le n most-places && nat_le amount most-amount)) (nat_le w most-weight && (nat_lt 0 w || amount == 0))
-    (and_from (nat_le 1 n) (nat_le n most-places && nat_le amount most-amount) (le-leb 1 n f.some) (and_from (nat_le n most-places) (nat_le amount most-amount) (le-leb n most-places f.few) (le-leb amount most-amount f.small)))
-    (and_from (nat_le w most-weight) (nat_lt 0 w || amount == 0) (le-leb w most-weight f.light) borne)
+    and_from (nat_le 1 n && (nat_le n most_places && nat_le amount most_amount)) (nat_le w most_weight && (nat_lt 0 w || amount == 0))
+    (and_from (nat_le 1 n) (nat_le n most_places && nat_le amount most_amount) (le-leb 1 n f.some) (and_from (nat_le n most_places) (nat_le amount most_amount) (le-leb n most_places f.few) (le-leb amount most_amount f.small)))
+    (and_from (nat_le w most_weight) (nat_lt 0 w || amount == 0) (le-leb w most_weight f.light) borne)
 
-pub admitted-parts : (amount : ℕ) (weights : List ℕ) (places : ℕ) → admitted amount weights places ≡ true → (places ≡ length weights) × (shareable amount weights ≡ true)
-admitted-parts amount weights places s =
+pub admitted_parts : (amount : ℕ) (weights : List ℕ) (places : ℕ) → admitted amount weights places ≡ true → (places ≡ length weights) × (shareable amount weights ≡ true)
+admitted_parts amount weights places s =
     let p = and_parts (places == length weights) (shareable amount weights) s in
     (eqb-true places (length weights) p.0, p.1)
 
 -- with no weight, zeros are the parts under any fair rule
-pub zero-parts : (parts : ℕ → List ℕ → List ℕ) → Fair parts → (amount : ℕ) (weights : List ℕ) → shareable amount weights ≡ true → sum weights ≡ 0
+pub zero_parts : (parts : ℕ → List ℕ → List ℕ) → Fair parts → (amount : ℕ) (weights : List ℕ) → shareable amount weights ≡ true → sum weights ≡ 0
     → (xs : List ℕ) → length xs ≡ length weights → ((k : ℕ) → k < length xs → slice_index xs k ≡ 0) → xs ≡ parts amount weights
-zero-parts parts fair amount weights s z xs n f =
+zero_parts parts fair amount weights s z xs n f =
     ext_get_or 0 xs (parts amount weights) (n ∙ sym (fair.long amount weights s))
     (λ k h. f k h ∙ sym (fair.zeros amount weights s z k (omega arith)))
 
@@ -69,12 +69,12 @@ err_of false x f g e = (refl, cc)
 
 -- a call of a rule that is admitted answers so, and leaves the parts
 pub answers : (parts : ℕ → List ℕ → List ℕ) (amount : ℕ) (weights before after : List ℕ) → admitted amount weights (length before) ≡ true → after ≡ parts amount weights
-    → (Ok tt ≡ share-answer amount weights (length before)) × (after ≡ share-leaves parts amount weights before)
+    → (Ok tt ≡ share_answer amount weights (length before)) × (after ≡ share_leaves parts amount weights before)
 answers parts amount weights before after s e = (rw s refl, rw s e)
 
 -- one that is not refuses, and leaves the list
-pub refuses : (parts : ℕ → List ℕ → List ℕ) (amount : ℕ) (weights before : List ℕ) (f : Fault) → Err f ≡ total-answer amount weights (length before)
-    → (Err f ≡ share-answer amount weights (length before)) × (before ≡ share-leaves parts amount weights before)
+pub refuses : (parts : ℕ → List ℕ → List ℕ) (amount : ℕ) (weights before : List ℕ) (f : Fault) → Err f ≡ total_answer amount weights (length before)
+    → (Err f ≡ share_answer amount weights (length before)) × (before ≡ share_leaves parts amount weights before)
 refuses parts amount weights before f e =
-    let p = err_of (admitted amount weights (length before)) (sum weights) not-shareable f e in
+    let p = err_of (admitted amount weights (length before)) (sum weights) not_shareable f e in
     (rw p.0 (ap Err p.1), rw p.0 refl)

@@ -28,7 +28,7 @@ abbrev pub rank : List ℕ → ℕ → ℕ
 rank rests i = count (length rests) (before rests i)
 
 -- each place has its floor, and one mil more if it is among the first places, of which there are as many as mils are missing
-abbrev pub largest-remainder : ℕ → List ℕ → List ℕ
-largest-remainder amount weights =
+abbrev pub largest_remainder : ℕ → List ℕ → List ℕ
+largest_remainder amount weights =
     map (λ i. slice_index (floors amount weights) i + cond (nat_lt (rank (remainders amount weights) i) (missing amount weights)) 1 0)
     (range_with_len 0 (length weights))

@@ -1,9 +1,9 @@
 // The rules by their numbers.
 ghost use Rattle.std.specs.Prelude.{◌≡◌};
-ghost use Rattle.sharing.specs.Choice.{rule-number, rule-of, rule-parts};
+ghost use Rattle.sharing.specs.Choice.{rule_number, rule_of, rule_parts};
 ghost use Rattle.sharing.specs.declared.choice.Rule.TheVariants.{LargestRemainder, Running};
-ghost use Rattle.sharing.specs.LargestFair.{largest-remainder-fair};
-ghost use Rattle.sharing.specs.RunningFair.{running-fair};
+ghost use Rattle.sharing.specs.LargestFair.{largest_remainder_fair};
+ghost use Rattle.sharing.specs.RunningFair.{running_fair};
 
 use crate::largest_remainder::LargestRemainder;
 use crate::rule::Sharing;
@@ -19,7 +19,7 @@ pub enum Rule {
 
 impl Rule {
     pub fn number(self) -> u8
-        ensures { result ≡ rule-number self }
+        ensures { result ≡ rule_number self }
     {
         match self {
             Rule::Running => 1,
@@ -29,7 +29,7 @@ impl Rule {
 
     // The rule with this number, if there is one.
     pub fn from_number(number: u8) -> Option<Rule>
-        ensures { result ≡ rule-of number }
+        ensures { result ≡ rule_of number }
     {
         match number {
             1 => Some(Rule::Running),
@@ -40,9 +40,9 @@ impl Rule {
 }
 
 impl Sharing for Rule {
-    ghost parts = { rule-parts };
+    ghost parts = { rule_parts };
 
-    ghost fair = { elim [ Running ↦ running-fair | LargestRemainder ↦ largest-remainder-fair ] };
+    ghost fair = { elim [ Running ↦ running_fair | LargestRemainder ↦ largest_remainder_fair ] };
 
     fn share(&self, amount: u64, weights: &[u64], shares: &mut [u64]) -> Result<(), Fault> {
         match self {

@@ -1,6 +1,6 @@
 // Proportions of an amount, with no product of the amount and a weight: that would not fit 64 bits.
 ghost use Rattle.std.specs.Prelude.{◌≡◌, ◌*◌, ◌/◌, ◌%◌, ◌<◌, ◌≤◌};
-ghost use Rattle.sharing.specs.Limits.{most-amount, most-weight};
+ghost use Rattle.sharing.specs.Limits.{most_amount, most_weight};
 
 #[derive(Clone, Copy)]
 pub struct Divided {
@@ -28,8 +28,8 @@ pub struct Rate {
     pub each: u64,
     pub rest: u64,
     ghost some: { 0 < total },
-    ghost small: { amount ≤ most-amount },
-    ghost light: { total ≤ most-weight },
+    ghost small: { amount ≤ most_amount },
+    ghost light: { total ≤ most_weight },
     ghost each_is: { each ≡ amount / total },
     ghost rest_is: { rest ≡ amount % total },
 }
@@ -37,8 +37,8 @@ pub struct Rate {
 impl Rate {
     pub fn new(amount: u64, total: u64) -> Rate
         requires some { 0 < total }
-        requires small { amount ≤ most-amount }
-        requires light { total ≤ most-weight }
+        requires small { amount ≤ most_amount }
+        requires light { total ≤ most_weight }
         ensures amount { result.amount ≡ amount }
         ensures total { result.total ≡ total }
     {

@@ -1,9 +1,9 @@
 // The largest-remainder rule.
 ghost use Rattle.std.specs.Prelude.{◌≡◌, ℕ, ◌+◌, ◌<◌, ◌≤◌, ◌&&◌, ◌||◌, ltb, map, length, if◌then◌else◌, sum, ◌==◌, nat_lt, slice_index};
 ghost use Rattle.std.specs.List.{range_with_len};
-ghost use Rattle.sharing.specs.LargestRemainder.{floors, largest-remainder, missing, rank, remainders};
-ghost use Rattle.sharing.specs.Limits.{most-amount};
-ghost use Rattle.sharing.specs.LargestFair.{largest-remainder-fair};
+ghost use Rattle.sharing.specs.LargestRemainder.{floors, largest_remainder, missing, rank, remainders};
+ghost use Rattle.sharing.specs.Limits.{most_amount};
+ghost use Rattle.sharing.specs.LargestFair.{largest_remainder_fair};
 
 use crate::division::Rate;
 use crate::limits::{MOST_PLACES, total_weight};
@@ -54,7 +54,7 @@ fn rank_of(rests: &[u64], i: usize) -> usize
 // Adds one mil at each of the first places, as many as mils are lacking.
 fn give_missing(lacking: u64, rests: &[u64], shares: &mut [u64])
     requires places { length shares.old ≡ length rests.now }
-    requires small { (k : ℕ) → k < length shares.old → slice_index shares.old k ≤ most-amount }
+    requires small { (k : ℕ) → k < length shares.old → slice_index shares.old k ≤ most_amount }
     ensures { shares.new ≡ map (λ i. slice_index shares.old i + (if ltb (rank rests.now i) lacking then 1 else 0)) (range_with_len 0 (length rests.now)) }
 {
     for i in 0..rests.len() {
@@ -69,7 +69,7 @@ fn lay_largest(rate: &Rate, weights: &[u64], shares: &mut [u64], rests: &mut [u6
     requires places { length shares.old ≡ length weights.now }
     requires room { length rests.old ≡ length weights.now }
     requires total { rate.now.total ≡ sum weights.now }
-    ensures { shares.new ≡ largest-remainder rate.now.amount weights.now }
+    ensures { shares.new ≡ largest_remainder rate.now.amount weights.now }
 {
     let lacking = lay_floors(rate, weights, shares, rests);
     give_missing(lacking, rests, shares);
@@ -81,9 +81,9 @@ fn lay_largest(rate: &Rate, weights: &[u64], shares: &mut [u64], rests: &mut [u6
 pub struct LargestRemainder;
 
 impl Sharing for LargestRemainder {
-    ghost parts = { λ _. largest-remainder };
+    ghost parts = { λ _. largest_remainder };
 
-    ghost fair = { λ s. largest-remainder-fair };
+    ghost fair = { λ s. largest_remainder_fair };
 
     fn share(&self, amount: u64, weights: &[u64], shares: &mut [u64]) -> Result<(), Fault> {
         let places = shares.len();

@@ -1,7 +1,7 @@
 // What a rule may be asked to share.
 ghost use Rattle.std.specs.Prelude.{◌≡◌, ◌+◌, ◌≤◌, ◌&&◌, leb, length, if◌then◌else◌, Some, None, sum, ◌==◌, nat_le};
-ghost use Rattle.sharing.specs.Limits.{most-amount, most-places, most-weight};
-ghost use Rattle.sharing.specs.Shareable.{total-answer};
+ghost use Rattle.sharing.specs.Limits.{most_amount, most_places, most_weight};
+ghost use Rattle.sharing.specs.Shareable.{total_answer};
 
 use faults::fault::Fault;
 use faults::refusal::Refusal;
@@ -15,22 +15,22 @@ pub const MOST_PLACES: usize = 32;
 
 // Are there as many places as weights, at least one and not too many, and is the amount not too large?
 fn is_within(amount: u64, weights: usize, places: usize) -> bool
-    ensures { result ≡ (places == weights && (nat_le 1 weights && (nat_le weights most-places && nat_le amount most-amount))) }
+    ensures { result ≡ (places == weights && (nat_le 1 weights && (nat_le weights most_places && nat_le amount most_amount))) }
 {
     places == weights && 1 <= weights && weights <= MOST_PLACES && amount <= MOST_AMOUNT
 }
 
 // Is the sum still within the limit with this weight?
 fn has_room(total: u64, weight: u64) -> bool
-    requires { total ≤ most-weight }
-    ensures { result ≡ nat_le (total + weight) most-weight }
+    requires { total ≤ most_weight }
+    ensures { result ≡ nat_le (total + weight) most_weight }
 {
     weight <= MOST_WEIGHT - total
 }
 
 // The sum of the weights, where it is not too large.
 fn limited_sum(weights: &[u64]) -> Option<u64>
-    ensures { result ≡ (if leb (sum weights.now) most-weight then Some (sum weights.now) else None) }
+    ensures { result ≡ (if leb (sum weights.now) most_weight then Some (sum weights.now) else None) }
 {
     let mut total = 0;
     for weight in weights {
@@ -45,7 +45,7 @@ fn limited_sum(weights: &[u64]) -> Option<u64>
 // The sum of the weights, or the refusal of every rule: the lists differ in length, there is no weight or there are too
 // many, a limit is passed, or there is an amount and nobody has a weight.
 pub fn total_weight(amount: u64, weights: &[u64], places: usize) -> Result<u64, Fault>
-    ensures { result ≡ total-answer amount weights.now places }
+    ensures { result ≡ total_answer amount weights.now places }
 {
     if !is_within(amount, weights.len(), places) {
         return Err(Fault::plain(Refusal::NotShareable));

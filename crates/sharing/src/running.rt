@@ -1,7 +1,7 @@
 // The running rule.
 ghost use Rattle.std.specs.Prelude.{◌≡◌, length, sum};
 ghost use Rattle.sharing.specs.Running.{running};
-ghost use Rattle.sharing.specs.RunningFair.{running-fair};
+ghost use Rattle.sharing.specs.RunningFair.{running_fair};
 
 use crate::division::Rate;
 use crate::limits::total_weight;
@@ -33,7 +33,7 @@ pub struct Running;
 impl Sharing for Running {
     ghost parts = { λ _. running };
 
-    ghost fair = { λ s. running-fair };
+    ghost fair = { λ s. running_fair };
 
     fn share(&self, amount: u64, weights: &[u64], shares: &mut [u64]) -> Result<(), Fault> {
         let total = total_weight(amount, weights, shares.len())?;

@@ -1,10 +1,10 @@
 // The statement of an issue.
 ghost use Rattle.std.specs.Prelude.{◌≡◌, ◌+◌, ◌*◌, ◌<◌, ◌≤◌, true, length, take, is_some, is_ok};
 ghost use Rattle.std.specs.List.{flat_map};
-ghost use Rattle.ledger.specs.Notes.{sound-notes};
-ghost use Rattle.statement.specs.Statements.{day-name, digit-of, first-line, last_line, of-issue, statement-answer, statement-leaves, statement-room, statement-text};
-ghost use Rattle.statement.specs.Steps.{line-in, one_in};
-ghost use Rattle.text.specs.Written.{Wrote, left-if-fits, length-if-fits};
+ghost use Rattle.ledger.specs.Notes.{sound_notes};
+ghost use Rattle.statement.specs.Statements.{day_name, digit_of, first_line, last_line, of_issue, statement_answer, statement_leaves, statement_room, statement_text};
+ghost use Rattle.statement.specs.Steps.{line_in, one_in};
+ghost use Rattle.text.specs.Written.{Wrote, left_if_fits, length_if_fits};
 
 use crate::line::{note_line_length, put_note_line};
 use dayfile::heading::Heading;
@@ -15,14 +15,14 @@ use text::write::{put_line, words_length};
 
 fn digit(n: u16, unit: u16) -> u8
     requires { 0 < unit }
-    ensures { result ≡ digit-of n unit }
+    ensures { result ≡ digit_of n unit }
 {
     b'0' + (n / unit % 10) as u8
 }
 
 // DAY and the date.
 fn day_name(heading: &Heading) -> [u8; 14]
-    ensures { result ≡ day-name heading.now }
+    ensures { result ≡ day_name heading.now }
 {
     let year = heading.year;
     let month = u16::from(heading.month);
@@ -55,7 +55,7 @@ fn one_in(note: &Note, issue: u8) -> usize
 
 // How many notes the issue has.
 fn count_in(notes: &[Note], issue: u8) -> usize
-    ensures { result ≡ length (of-issue issue notes.now) }
+    ensures { result ≡ length (of_issue issue notes.now) }
 {
     let mut count = 0;
     for note in notes {
@@ -65,7 +65,7 @@ fn count_in(notes: &[Note], issue: u8) -> usize
 }
 
 fn length_in(note: &Note, issue: u8) -> usize
-    ensures value { result ≡ length (line-in issue note.now) }
+    ensures value { result ≡ length (line_in issue note.now) }
     ensures bound { result ≤ 47 }
 {
     if note.issue == issue {
@@ -77,8 +77,8 @@ fn length_in(note: &Note, issue: u8) -> usize
 
 // The note's line, if it is of the issue.
 fn put_in(buffer: &mut [u8], at: usize, note: &Note, issue: u8) -> usize
-    requires { at + length (line-in issue note.now) ≤ length buffer.old }
-    ensures { Wrote buffer.old at (line-in issue note.now) buffer.new result }
+    requires { at + length (line_in issue note.now) ≤ length buffer.old }
+    ensures { Wrote buffer.old at (line_in issue note.now) buffer.new result }
 {
     if note.issue == issue {
         put_note_line(buffer, at, note)
@@ -89,7 +89,7 @@ fn put_in(buffer: &mut [u8], at: usize, note: &Note, issue: u8) -> usize
 
 fn lines_length(notes: &[Note], issue: u8) -> usize
     requires { length notes.now ≤ 100000000 }
-    ensures value { result ≡ length (flat_map (line-in issue) notes.now) }
+    ensures value { result ≡ length (flat_map (line_in issue) notes.now) }
     ensures bound { result ≤ 47 * length notes.now }
 {
     let mut total = 0;
@@ -100,8 +100,8 @@ fn lines_length(notes: &[Note], issue: u8) -> usize
 }
 
 fn put_lines(buffer: &mut [u8], at: usize, notes: &[Note], issue: u8) -> usize
-    requires { at + length (flat_map (line-in issue) notes.now) ≤ length buffer.old }
-    ensures { Wrote buffer.old at (flat_map (line-in issue) notes.now) buffer.new result }
+    requires { at + length (flat_map (line_in issue) notes.now) ≤ length buffer.old }
+    ensures { Wrote buffer.old at (flat_map (line_in issue) notes.now) buffer.new result }
 {
     let mut end = at;
     for note in notes {
@@ -111,15 +111,15 @@ fn put_lines(buffer: &mut [u8], at: usize, notes: &[Note], issue: u8) -> usize
 }
 
 fn first_line_length(heading: &Heading, issue: u8) -> usize
-    ensures value { result ≡ length (first-line heading.now issue) }
+    ensures value { result ≡ length (first_line heading.now issue) }
     ensures bound { result ≤ 57 }
 {
     14 + words_length(&[u64::from(heading.hours), u64::from(issue)]) + 1
 }
 
 fn put_first_line(buffer: &mut [u8], heading: &Heading, issue: u8) -> usize
-    requires { length (first-line heading.now issue) ≤ length buffer.old }
-    ensures { Wrote buffer.old 0 (first-line heading.now issue) buffer.new result }
+    requires { length (first_line heading.now issue) ≤ length buffer.old }
+    ensures { Wrote buffer.old 0 (first_line heading.now issue) buffer.new result }
 {
     let name = day_name(heading);
     put_line(
@@ -147,7 +147,7 @@ fn put_last_line(buffer: &mut [u8], at: usize, count: usize) -> usize
 // How long the whole text is.
 fn text_length(heading: &Heading, notes: &[Note], issue: u8) -> usize
     requires { length notes.now ≤ 100000000 }
-    ensures { result ≡ length (statement-text heading.now notes.now issue) }
+    ensures { result ≡ length (statement_text heading.now notes.now issue) }
 {
     first_line_length(heading, issue)
         + lines_length(notes, issue)
@@ -156,8 +156,8 @@ fn text_length(heading: &Heading, notes: &[Note], issue: u8) -> usize
 
 // The whole text, for which there is room.
 fn put_text(buffer: &mut [u8], heading: &Heading, notes: &[Note], issue: u8) -> usize
-    requires { length (statement-text heading.now notes.now issue) ≤ length buffer.old }
-    ensures { Wrote buffer.old 0 (statement-text heading.now notes.now issue) buffer.new result }
+    requires { length (statement_text heading.now notes.now issue) ≤ length buffer.old }
+    ensures { Wrote buffer.old 0 (statement_text heading.now notes.now issue) buffer.new result }
 {
     let headed = put_first_line(buffer, heading, issue);
     let listed = put_lines(buffer, headed, notes, issue);
@@ -167,8 +167,8 @@ fn put_text(buffer: &mut [u8], heading: &Heading, notes: &[Note], issue: u8) -> 
 // The whole text where the buffer has room for it; else nothing is written.
 fn put_statement(buffer: &mut [u8], heading: &Heading, notes: &[Note], issue: u8) -> Option<usize>
     requires { length notes.now ≤ 100000000 }
-    ensures answer { result ≡ length-if-fits (statement-text heading.now notes.now issue) buffer.old }
-    ensures after { buffer.new ≡ left-if-fits (statement-text heading.now notes.now issue) buffer.old }
+    ensures answer { result ≡ length_if_fits (statement_text heading.now notes.now issue) buffer.old }
+    ensures after { buffer.new ≡ left_if_fits (statement_text heading.now notes.now issue) buffer.old }
 {
     if text_length(heading, notes, issue) > buffer.len() {
         return None;
@@ -185,10 +185,10 @@ fn put_from_ledger(
     issues: u8,
     issue: u8,
 ) -> Option<usize>
-    requires { sound-notes ledger.now notes issues ≡ true }
-    ensures answer { result ≡ length-if-fits (statement-text heading.now (take notes ledger.now) issue) buffer.old }
-    ensures after { buffer.new ≡ left-if-fits (statement-text heading.now (take notes ledger.now) issue) buffer.old }
-    ensures fits { statement-room notes ≤ length buffer.old → is_some result ≡ true }
+    requires { sound_notes ledger.now notes issues ≡ true }
+    ensures answer { result ≡ length_if_fits (statement_text heading.now (take notes ledger.now) issue) buffer.old }
+    ensures after { buffer.new ≡ left_if_fits (statement_text heading.now (take notes ledger.now) issue) buffer.old }
+    ensures fits { statement_room notes ≤ length buffer.old → is_some result ≡ true }
 {
     put_statement(buffer, heading, &ledger[0..notes], issue)
 }
@@ -202,10 +202,10 @@ pub fn statement(
     issue: u8,
     buffer: &mut [u8],
 ) -> Result<usize, Fault>
-    requires { sound-notes ledger.now notes issues ≡ true }
-    ensures answer { result ≡ statement-answer heading.now (take notes ledger.now) issues issue buffer.old }
-    ensures after { buffer.new ≡ statement-leaves heading.now (take notes ledger.now) issues issue buffer.old }
-    ensures fits { issue < issues → statement-room notes ≤ length buffer.old → is_ok result ≡ true }
+    requires { sound_notes ledger.now notes issues ≡ true }
+    ensures answer { result ≡ statement_answer heading.now (take notes ledger.now) issues issue buffer.old }
+    ensures after { buffer.new ≡ statement_leaves heading.now (take notes ledger.now) issues issue buffer.old }
+    ensures fits { issue < issues → statement_room notes ≤ length buffer.old → is_ok result ≡ true }
 {
     if issue < issues {
         put_from_ledger(buffer, heading, ledger, notes, issues, issue).ok_or(Fault::plain(

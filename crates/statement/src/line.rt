@@ -1,6 +1,6 @@
 // The lines of amounts, in a statement or a printed sheet.
 ghost use Rattle.std.specs.Prelude.{◌≡◌, ◌+◌, ◌≤◌, length};
-ghost use Rattle.statement.specs.Lines.{amount-line, note-line};
+ghost use Rattle.statement.specs.Lines.{amount_line, note_line};
 ghost use Rattle.text.specs.Written.{Wrote};
 
 use crate::side::side_and_magnitude;
@@ -10,7 +10,7 @@ use text::write::{decimal_length, put_bytes, put_word};
 
 // How long the line of an amount is.
 pub fn amount_line_length(party: u8, amount: i64) -> usize
-    ensures value { (code : Code) → result ≡ length (amount-line code party amount) }
+    ensures value { (code : Code) → result ≡ length (amount_line code party amount) }
     ensures bound { result ≤ 47 }
 {
     let (_, magnitude) = side_and_magnitude(amount);
@@ -19,8 +19,8 @@ pub fn amount_line_length(party: u8, amount: i64) -> usize
 
 // Code, party, side and magnitude of an amount, and the end of the line.
 pub fn put_amount_line(buffer: &mut [u8], at: usize, code: Code, party: u8, amount: i64) -> usize
-    requires { at + length (amount-line code party amount) ≤ length buffer.old }
-    ensures { Wrote buffer.old at (amount-line code party amount) buffer.new result }
+    requires { at + length (amount_line code party amount) ≤ length buffer.old }
+    ensures { Wrote buffer.old at (amount_line code party amount) buffer.new result }
 {
     let row = code.row();
     let (side, magnitude) = side_and_magnitude(amount);
@@ -33,7 +33,7 @@ pub fn put_amount_line(buffer: &mut [u8], at: usize, code: Code, party: u8, amou
 
 // How long the line of a note is.
 pub fn note_line_length(note: &Note) -> usize
-    ensures value { result ≡ length (note-line note.now) }
+    ensures value { result ≡ length (note_line note.now) }
     ensures bound { result ≤ 47 }
 {
     match Code::from_number(note.code) {
@@ -44,8 +44,8 @@ pub fn note_line_length(note: &Note) -> usize
 
 // The line of a note; nothing where its code is none.
 pub fn put_note_line(buffer: &mut [u8], at: usize, note: &Note) -> usize
-    requires { at + length (note-line note.now) ≤ length buffer.old }
-    ensures { Wrote buffer.old at (note-line note.now) buffer.new result }
+    requires { at + length (note_line note.now) ≤ length buffer.old }
+    ensures { Wrote buffer.old at (note_line note.now) buffer.new result }
 {
     match Code::from_number(note.code) {
         Some(code) => put_amount_line(buffer, at, code, note.party, note.amount),

@@ -1,6 +1,6 @@
 // Whether an amount is received or owed.
 ghost use Rattle.std.specs.Prelude.{◌≡◌};
-ghost use Rattle.statement.specs.Sides.{side-and-magnitude, side-letter};
+ghost use Rattle.statement.specs.Sides.{side_and_magnitude, side_letter};
 
 #[derive(Clone, Copy)]
 pub enum Side {
@@ -13,7 +13,7 @@ pub enum Side {
 impl Side {
     // The letter that stands for the side in a statement.
     pub fn letter(self) -> u8
-        ensures { result ≡ side-letter self }
+        ensures { result ≡ side_letter self }
     {
         match self {
             Side::Payment => b'P',
@@ -24,7 +24,7 @@ impl Side {
 
 // An amount as its side and its magnitude. 0 is a payment.
 pub fn side_and_magnitude(amount: i64) -> (Side, u64)
-    ensures { result ≡ side-and-magnitude amount }
+    ensures { result ≡ side_and_magnitude amount }
 {
     if amount >= 0 {
         (Side::Payment, amount.unsigned_abs())

@@ -6,17 +6,17 @@ use Rattle.std.proofs.lemmas.List.{drop_at, drop-drop, flat_map_more, length_pus
 use Rattle.std.proofs.lemmas.Bool.{cond-false, cond-true, le-leb, lt-leb}
 use Rattle.std.specs.List.{flat_map}
 use Rattle.text.specs.Lines.{line, words}
-use Rattle.text.specs.Written.{Wrote, left-if-fits, length-if-fits, written}
+use Rattle.text.specs.Written.{Wrote, left_if_fits, length_if_fits, written}
 
 length_front : {X : Type 0} (buffer : List X) (at : ℕ) → at ≤ length buffer → length (take at buffer) ≡ at
 length_front buffer at h = rw (length-take at buffer) (omega arith)
 
-length-written : {X : Type 0} (buffer : List X) (at : ℕ) (text : List X) → at + length text ≤ length buffer → length (written buffer at text) ≡ length buffer
-length-written buffer at text h = simp (length-append, length-take, length-drop) (omega arith)
+length_written : {X : Type 0} (buffer : List X) (at : ℕ) (text : List X) → at + length text ≤ length buffer → length (written buffer at text) ≡ length buffer
+length_written buffer at text h = simp (length-append, length-take, length-drop) (omega arith)
 
 -- two pieces, one after the other, are one
-written-written : {X : Type 0} (buffer : List X) (at : ℕ) (xs ys : List X) (m : ℕ) → m ≡ at + length xs → at + length xs ≤ length buffer → written (written buffer at xs) m ys ≡ written buffer at (xs ++ ys)
-written-written {X} buffer at xs ys m e h =
+written_written : {X : Type 0} (buffer : List X) (at : ℕ) (xs ys : List X) (m : ℕ) → m ≡ at + length xs → at + length xs ≤ length buffer → written (written buffer at xs) m ys ≡ written buffer at (xs ++ ys)
+written_written {X} buffer at xs ys m e h =
     let P : List X = take at buffer ++ xs in
     let Q : List X = drop (at + length xs) buffer in
     let D : List X = drop (at + length (xs ++ ys)) buffer in
@@ -30,9 +30,9 @@ written-written {X} buffer at xs ys m e h =
 
 pub after : {X : Type 0} {buffer buffer' buffer'' : List X} {at m n : ℕ} (xs ys : List X) → Wrote buffer at xs buffer' m → Wrote buffer' m ys buffer'' n → Wrote buffer at (xs ++ ys) buffer'' n
 after {X} {buffer} {buffer'} {buffer''} {at} {m} {n} xs ys p q =
-    let k : length buffer' ≡ length buffer = ap length p.is ∙ length-written buffer at xs p.room in
+    let k : length buffer' ≡ length buffer = ap length p.is ∙ length_written buffer at xs p.room in
     record {
-      is = q.is ∙ ap (λ b. written b m ys) p.is ∙ written-written buffer at xs ys m p.next p.room;
+      is = q.is ∙ ap (λ b. written b m ys) p.is ∙ written_written buffer at xs ys m p.next p.room;
       next = omega (arith, length-append xs ys, p.next, q.next);
       room = omega (arith, length-append xs ys, p.next, q.room);
     }
@@ -42,31 +42,31 @@ pub none : {X : Type 0} (buffer : List X) (at : ℕ) → at ≤ length buffer �
 none buffer at h = record { is = sym (ap (λ n. take at buffer ++ drop n buffer) (add-zero at) ∙ take-append-drop at buffer); next = omega arith; room = omega arith }
 
 -- a write to a part of the slice
-pub written-mid : (buffer : List ℕ) (at k : ℕ) (xs ys : List ℕ) → ys ≡ xs → k ≡ length xs → put_mid at k buffer ys ≡ written buffer at xs
-written-mid buffer at k xs ys e f =
+pub written_mid : (buffer : List ℕ) (at k : ℕ) (xs ys : List ℕ) → ys ≡ xs → k ≡ length xs → put_mid at k buffer ys ≡ written buffer at xs
+written_mid buffer at k xs ys e f =
     (λ i. take at buffer ++ (e i ++ drop (f i) (drop at buffer))) ∙ ap (λ z. take at buffer ++ (xs ++ z)) (drop-drop (length xs) at buffer)
 
-pub length-decimal-step : (n : ℕ) → 10 ≤ n → n < 2 ^ 64 → length (decimal n) ≡ length (decimal (n / 10)) + 1
-length-decimal-step n p q = ap length (decimal_step n p q) ∙ length_push (decimal (n / 10)) (48 + n % 10)
+pub length_decimal_step : (n : ℕ) → 10 ≤ n → n < 2 ^ 64 → length (decimal n) ≡ length (decimal (n / 10)) + 1
+length_decimal_step n p q = ap length (decimal_step n p q) ∙ length_push (decimal (n / 10)) (48 + n % 10)
 
 -- a piece for each element: the pieces of one more element
 module _ {X Y : Type 0} (f : X → List Y) (xs : List X) (d : X) where
   pub pieces_more : (i : ℕ) → i < length xs → flat_map f (take (i + 1) xs) ≡ flat_map f (take i xs) ++ f (get_or xs i d)
   pieces_more i h = ap (flat_map f) (take_more xs i d h) ∙ sym (flat_map_more f [] (take i xs) (get_or xs i d))
 
-  pub length-pieces-more : (i : ℕ) → i < length xs → length (flat_map f (take (i + 1) xs)) ≡ length (flat_map f (take i xs)) + length (f (get_or xs i d))
-  length-pieces-more i h = ap length (pieces_more i h) ∙ length-append (flat_map f (take i xs)) (f (get_or xs i d))
+  pub length_pieces_more : (i : ℕ) → i < length xs → length (flat_map f (take (i + 1) xs)) ≡ length (flat_map f (take i xs)) + length (f (get_or xs i d))
+  length_pieces_more i h = ap length (pieces_more i h) ∙ length-append (flat_map f (take i xs)) (f (get_or xs i d))
 
-pub pieces-front : {X Y : Type 0} (f : X → List Y) (k : ℕ) (xs : List X) → length (flat_map f (take k xs)) ≤ length (flat_map f xs)
-pieces-front f zero xs = omega arith
-pieces-front f (suc k) [] = omega arith
-pieces-front f (suc k) (x ∷ xs) = simp length-append (omega (arith, pieces-front f k xs))
+pub pieces_front : {X Y : Type 0} (f : X → List Y) (k : ℕ) (xs : List X) → length (flat_map f (take k xs)) ≤ length (flat_map f xs)
+pieces_front f zero xs = omega arith
+pieces_front f (suc k) [] = omega arith
+pieces_front f (suc k) (x ∷ xs) = simp length-append (omega (arith, pieces_front f k xs))
 
-pub length-line : (name numbers : List ℕ) → length (line name numbers) ≡ length name + length (words numbers) + 1
-length-line name numbers = simp length-append (omega arith)
+pub length_line : (name numbers : List ℕ) → length (line name numbers) ≡ length name + length (words numbers) + 1
+length_line name numbers = simp length-append (omega arith)
 
 -- a whole text written at the front
-pub fits : (text buffer buffer' : List ℕ) (n : ℕ) → Wrote buffer 0 text buffer' n → (Some n ≡ length-if-fits text buffer) × (buffer' ≡ left-if-fits text buffer)
+pub fits : (text buffer buffer' : List ℕ) (n : ℕ) → Wrote buffer 0 text buffer' n → (Some n ≡ length_if_fits text buffer) × (buffer' ≡ left_if_fits text buffer)
 fits text buffer buffer' n w =
     let yes : leb (length text) (length buffer) ≡ true = le-leb (length text) (length buffer) (omega (arith, w.room)) in (
       ap Some (w.next ∙ zero-add (length text)) ∙ sym (cond-true (leb (length text) (length buffer)) (Some (length text)) None yes),
@@ -74,7 +74,7 @@ fits text buffer buffer' n w =
     )
 
 -- a text that is too long
-pub too_long : (text buffer : List ℕ) → length buffer < length text → (None ≡ length-if-fits text buffer) × (buffer ≡ left-if-fits text buffer)
+pub too_long : (text buffer : List ℕ) → length buffer < length text → (None ≡ length_if_fits text buffer) × (buffer ≡ left_if_fits text buffer)
 too_long text buffer h =
     let nay : leb (length text) (length buffer) ≡ false = lt-leb (length text) (length buffer) h in (
       sym (cond-false (leb (length text) (length buffer)) (Some (length text)) None nay),

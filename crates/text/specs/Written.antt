@@ -12,9 +12,9 @@ pub record Wrote {X : Type 0} (before : List X) (at : ℕ) (text after : List X)
   pub room : at + length text ≤ length before
 
 -- a call that writes the whole text at the front, or nothing: what it answers,
-abbrev pub length-if-fits : List ℕ → List ℕ → Option ℕ
-length-if-fits text buffer = cond (nat_le (length text) (length buffer)) (Some (length text)) None
+abbrev pub length_if_fits : List ℕ → List ℕ → Option ℕ
+length_if_fits text buffer = cond (nat_le (length text) (length buffer)) (Some (length text)) None
 
 -- and what it leaves: bytes beyond the text stay
-abbrev pub left-if-fits : List ℕ → List ℕ → List ℕ
-left-if-fits text buffer = cond (nat_le (length text) (length buffer)) (text ++ drop (length text) buffer) buffer
+abbrev pub left_if_fits : List ℕ → List ℕ → List ℕ
+left_if_fits text buffer = cond (nat_le (length text) (length buffer)) (text ++ drop (length text) buffer) buffer

@@ -1,7 +1,7 @@
 // The line that tells of a refusal.
 ghost use Rattle.std.specs.Prelude.{◌≡◌, ◌≤◌, true, length, is_some};
-ghost use Rattle.text.specs.Lines.{refused-room, refused-text};
-ghost use Rattle.text.specs.Written.{left-if-fits, length-if-fits};
+ghost use Rattle.text.specs.Lines.{refused_room, refused_text};
+ghost use Rattle.text.specs.Written.{left_if_fits, length_if_fits};
 
 use crate::write::put_only_line;
 use faults::fault::Fault;
@@ -12,9 +12,9 @@ pub const REFUSED_ROOM: usize = 134;
 // REFUSED and the number of the reason, its layer, and the offset, account, node and hour of its place.
 // Where the buffer is too short nothing is written.
 pub fn put_refused(buffer: &mut [u8], fault: &Fault) -> Option<usize>
-    ensures answer { result ≡ length-if-fits (refused-text fault.now) buffer.old }
-    ensures after { buffer.new ≡ left-if-fits (refused-text fault.now) buffer.old }
-    ensures fits { refused-room ≤ length buffer.old → is_some result ≡ true }
+    ensures answer { result ≡ length_if_fits (refused_text fault.now) buffer.old }
+    ensures after { buffer.new ≡ left_if_fits (refused_text fault.now) buffer.old }
+    ensures fits { refused_room ≤ length buffer.old → is_some result ≡ true }
 {
     let place = fault.place;
     put_only_line(

@@ -1,7 +1,7 @@
 // Pieces of text, each written after the last. A function here asks for room, and answers where its text ends.
 ghost use Rattle.std.specs.Prelude.{◌≡◌, ◌+◌, ◌*◌, ◌≤◌, true, length, is_some, decimal};
 ghost use Rattle.text.specs.Lines.{line, word, words};
-ghost use Rattle.text.specs.Written.{Wrote, left-if-fits, length-if-fits};
+ghost use Rattle.text.specs.Written.{Wrote, left_if_fits, length_if_fits};
 
 pub fn put_bytes(buffer: &mut [u8], at: usize, bytes: &[u8]) -> usize
     requires { at + length bytes.now ≤ length buffer.old }
@@ -84,8 +84,8 @@ pub fn put_line(buffer: &mut [u8], at: usize, name: &[u8], numbers: &[u64]) -> u
 pub fn put_only_line(buffer: &mut [u8], name: &[u8], numbers: &[u64]) -> Option<usize>
     requires named { length name.now ≤ 1000000 }
     requires numbered { length numbers.now ≤ 1000000 }
-    ensures answer { result ≡ length-if-fits (line name.now numbers.now) buffer.old }
-    ensures after { buffer.new ≡ left-if-fits (line name.now numbers.now) buffer.old }
+    ensures answer { result ≡ length_if_fits (line name.now numbers.now) buffer.old }
+    ensures after { buffer.new ≡ left_if_fits (line name.now numbers.now) buffer.old }
     ensures fits { length name.now + 21 * length numbers.now + 1 ≤ length buffer.old → is_some result ≡ true }
 {
     if name.len() + words_length(numbers) + 1 > buffer.len() {

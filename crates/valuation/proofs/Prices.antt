@@ -2,8 +2,8 @@
 use Rattle.std.proofs.Common.{ℕ, true, false, cond, List, [], ◌∷◌, Some, None, Option}
 use Rattle.std.specs.List.{AllByRecursion as All}
 use Rattle.dayfile.specs.declared.record.Price.{Price}
-use Rattle.closing.specs.Prices.{is-price-of}
-use Rattle.price_grid.specs.Found.{price-at}
+use Rattle.closing.specs.Prices.{is_price_of}
+use Rattle.price_grid.specs.Found.{price_at}
 use Rattle.valuation.specs.Valid.{ValidPrice}
 
 -- what is found is valid
@@ -11,8 +11,8 @@ abbrev pub ValidFound : Option Price → Type 0
 ValidFound (Some p) = ValidPrice p
 ValidFound None = Unit {0}
 
-pub found-valid : (ps : List Price) (node hour : ℕ) → All ValidPrice ps → ValidFound (price-at ps node hour)
-found-valid [] node hour h = tt
-found-valid (p ∷ ps) node hour h =
-    elim (is-price-of node hour p) as (λ b. ValidFound (cond b (Some p) (price-at ps node hour)))
-    [ true ↦ h.0 | false ↦ found-valid ps node hour h.1 ]
+pub found_valid : (ps : List Price) (node hour : ℕ) → All ValidPrice ps → ValidFound (price_at ps node hour)
+found_valid [] node hour h = tt
+found_valid (p ∷ ps) node hour h =
+    elim (is_price_of node hour p) as (λ b. ValidFound (cond b (Some p) (price_at ps node hour)))
+    [ true ↦ h.0 | false ↦ found_valid ps node hour h.1 ]

@@ -4,11 +4,11 @@ use Rattle.dayfile.specs.declared.record.Failure.{Failure}
 use Rattle.dayfile.specs.declared.record.Position.{Position}
 use Rattle.dayfile.specs.declared.record.Reserve.{Reserve}
 
-abbrev pub no-position : Position
-no-position = record { account = 0; node = 0; hour = 0; class = Generation; day_ahead = 0; real_time = 0 }
+abbrev pub no_position : Position
+no_position = record { account = 0; node = 0; hour = 0; class = Generation; day_ahead = 0; real_time = 0 }
 
-abbrev pub no-reserve : Reserve
-no-reserve = record { account = 0; unit = 0; kind = 0; hour = 0; day_ahead_price = 0; day_ahead = 0; real_time_price = 0; real_time = 0 }
+abbrev pub no_reserve : Reserve
+no_reserve = record { account = 0; unit = 0; kind = 0; hour = 0; day_ahead_price = 0; day_ahead = 0; real_time_price = 0; real_time = 0 }
 
-abbrev pub no-failure : Failure
-no-failure = record { unit = 0; kind = 0 }
+abbrev pub no_failure : Failure
+no_failure = record { unit = 0; kind = 0 }

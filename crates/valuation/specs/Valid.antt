@@ -19,16 +19,16 @@ pub record ValidPosition (x : Position) : Type 0 where
 pub record ValidInterconnection (x : Interconnection) : Type 0 where
   pub first : 1 ≤ x.system
   pub last : x.system ≤ 4
-  pub day-out : x.day_ahead_export ≤ 2000000
-  pub day-in : x.day_ahead_import ≤ 2000000
-  pub real-out : x.real_time_export ≤ 2000000
-  pub real-in : x.real_time_import ≤ 2000000
+  pub day_out : x.day_ahead_export ≤ 2000000
+  pub day_in : x.day_ahead_import ≤ 2000000
+  pub real_out : x.real_time_export ≤ 2000000
+  pub real_in : x.real_time_import ≤ 2000000
   pub price : unsigned_abs x.imbalance_price ≤ 10000000
 
 pub record ValidReserve (x : Reserve) : Type 0 where
-  pub day-price : x.day_ahead_price ≤ 10000000
+  pub day_price : x.day_ahead_price ≤ 10000000
   pub day : x.day_ahead ≤ 2000000
-  pub real-price : x.real_time_price ≤ 10000000
+  pub real_price : x.real_time_price ≤ 10000000
   pub real : x.real_time ≤ 2000000
 
 pub record ValidFine (x : Fine) : Type 0 where
@@ -42,18 +42,18 @@ pub record Sound (r : Records) : Type 0 where
   pub some : 1 ≤ r.heading.accounts
   pub few : r.heading.accounts ≤ 32
   pub day : r.heading.hours ≤ 25
-  pub few-positions : length r.positions ≤ 1000
-  pub few-interconnections : length r.interconnections ≤ 200
-  pub few-reserves : length r.reserves ≤ 400
-  pub few-failures : length r.failures ≤ 320
-  pub few-fines : length r.fines ≤ 50
+  pub few_positions : length r.positions ≤ 1000
+  pub few_interconnections : length r.interconnections ≤ 200
+  pub few_reserves : length r.reserves ≤ 400
+  pub few_failures : length r.failures ≤ 320
+  pub few_fines : length r.fines ≤ 50
   pub prices : All ValidPrice r.prices
   pub positions : All ValidPosition r.positions
   pub interconnections : All ValidInterconnection r.interconnections
   pub reserves : All ValidReserve r.reserves
   pub fines : All ValidFine r.fines
-  pub position-accounts : All (λ x. Listed r x.account) r.positions
-  pub reserve-accounts : All (λ x. Listed r x.account) r.reserves
-  pub fine-accounts : All (λ x. Listed r x.account) r.fines
+  pub position_accounts : All (λ x. Listed r x.account) r.positions
+  pub reserve_accounts : All (λ x. Listed r x.account) r.reserves
+  pub fine_accounts : All (λ x. Listed r x.account) r.fines
   -- no two failures have one unit and kind
   pub once : (unit kind : ℕ) → sum_by (λ f. cond (unit == f.unit && kind == f.kind) 1 0) r.failures ≤ 1

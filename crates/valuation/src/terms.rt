@@ -1,7 +1,7 @@
 // What one record comes to.
 ghost use Rattle.std.specs.Prelude.{◌≡◌, ℕ, ◌*◌, ◌≤◌, ℤ, ◌+ℤ◌, ◌-ℤ◌, ◌*ℤ◌, Some, unsigned_abs};
 ghost use Rattle.std.specs.List.{AllByRecursion as All};
-ghost use Rattle.valuation.specs.Terms.{class-buys, class-sign, deviation, exchange-energy, exchange-term, failed-term, fine-mils, imbalance-term, imbalance-value, market-price, net-export, position-energy, position-term, price-in, reserve-energy, reserve-price, reserve-term};
+ghost use Rattle.valuation.specs.Terms.{class_buys, class_sign, deviation, exchange_energy, exchange_term, failed_term, fine_mils, imbalance_term, imbalance_value, market_price, net_export, position_energy, position_term, price_in, reserve_energy, reserve_price, reserve_term};
 ghost use Rattle.valuation.specs.Valid.{ValidFine, ValidInterconnection, ValidPosition, ValidPrice, ValidReserve};
 
 use crate::market::Market;
@@ -10,7 +10,7 @@ use price_grid::grid::PriceGrid;
 
 // 1 for energy put into the system, −1 for energy taken out.
 fn sign(class: Class) -> i64
-    ensures value { result ≡ class-sign class }
+    ensures value { result ≡ class_sign class }
     ensures bound { unsigned_abs result ≤ 1 }
 {
     match class {
@@ -21,7 +21,7 @@ fn sign(class: Class) -> i64
 
 // Is energy of the class bought?
 pub fn is_bought(class: Class) -> bool
-    ensures { result ≡ class-buys class }
+    ensures { result ≡ class_buys class }
 {
     match class {
         Class::Generation | Class::Import => false,
@@ -43,7 +43,7 @@ fn product(price: i64, kwh: i64) -> i64
 fn signed_product(class: Class, price: i64, kwh: i64) -> i64
     requires price { unsigned_abs price ≤ 10000000 }
     requires kwh { unsigned_abs kwh ≤ 2000000 }
-    ensures value { result ≡ class-sign class *ℤ price *ℤ kwh }
+    ensures value { result ≡ class_sign class *ℤ price *ℤ kwh }
     ensures bound { unsigned_abs result ≤ 20000000000000 }
 {
     sign(class) * price * kwh
@@ -51,7 +51,7 @@ fn signed_product(class: Class, price: i64, kwh: i64) -> i64
 
 fn price_in(market: Market, p: Price) -> i64
     requires { ValidPrice p }
-    ensures value { result ≡ price-in market (Some p) }
+    ensures value { result ≡ price_in market (Some p) }
     ensures bound { unsigned_abs result ≤ 10000000 }
 {
     match market {
@@ -63,7 +63,7 @@ fn price_in(market: Market, p: Price) -> i64
 // The price of a node and an hour in a market.
 fn price_for(prices: &PriceGrid, market: Market, node: u8, hour: u8) -> i64
     requires { All ValidPrice prices.now.prices.now }
-    ensures value { result ≡ market-price prices.now.prices.now market node hour }
+    ensures value { result ≡ market_price prices.now.prices.now market node hour }
     ensures bound { unsigned_abs result ≤ 10000000 }
 {
     match prices.price_at(node, hour) {
@@ -84,7 +84,7 @@ fn deviation_of(x: &Position) -> i64
 
 fn energy(market: Market, x: &Position) -> i64
     requires { ValidPosition x.now }
-    ensures value { result ≡ position-energy market x.now }
+    ensures value { result ≡ position_energy market x.now }
     ensures bound { unsigned_abs result ≤ 2000000 }
 {
     match market {
@@ -97,7 +97,7 @@ fn energy(market: Market, x: &Position) -> i64
 pub fn position_term(prices: &PriceGrid, market: Market, x: &Position) -> i64
     requires prices { All ValidPrice prices.now.prices.now }
     requires position { ValidPosition x.now }
-    ensures value { result ≡ position-term prices.now.prices.now market x.now }
+    ensures value { result ≡ position_term prices.now.prices.now market x.now }
     ensures bound { unsigned_abs result ≤ 20000000000000 }
 {
     signed_product(
@@ -109,7 +109,7 @@ pub fn position_term(prices: &PriceGrid, market: Market, x: &Position) -> i64
 
 fn reserve_price(market: Market, x: &Reserve) -> i64
     requires { ValidReserve x.now }
-    ensures value { result ≡ reserve-price market x.now }
+    ensures value { result ≡ reserve_price market x.now }
     ensures bound { unsigned_abs result ≤ 10000000 }
 {
     match market {
@@ -120,7 +120,7 @@ fn reserve_price(market: Market, x: &Reserve) -> i64
 
 fn reserve_energy(market: Market, x: &Reserve) -> i64
     requires { ValidReserve x.now }
-    ensures value { result ≡ reserve-energy market x.now }
+    ensures value { result ≡ reserve_energy market x.now }
     ensures bound { unsigned_abs result ≤ 2000000 }
 {
     match market {
@@ -132,7 +132,7 @@ fn reserve_energy(market: Market, x: &Reserve) -> i64
 // What a reserve comes to in a market.
 pub fn reserve_term(market: Market, x: &Reserve) -> i64
     requires { ValidReserve x.now }
-    ensures value { result ≡ reserve-term market x.now }
+    ensures value { result ≡ reserve_term market x.now }
     ensures bound { unsigned_abs result ≤ 20000000000000 }
 {
     product(reserve_price(market, x), reserve_energy(market, x))
@@ -141,7 +141,7 @@ pub fn reserve_term(market: Market, x: &Reserve) -> i64
 // What a reserve that failed came to in both markets.
 pub fn failed_term(x: &Reserve) -> i64
     requires { ValidReserve x.now }
-    ensures value { result ≡ failed-term x.now }
+    ensures value { result ≡ failed_term x.now }
     ensures bound { unsigned_abs result ≤ 40000000000000 }
 {
     let day = reserve_term(Market::DayAhead, x);
@@ -152,7 +152,7 @@ pub fn failed_term(x: &Reserve) -> i64
 // Export less import.
 fn net_export(market: Market, x: &Interconnection) -> i64
     requires { ValidInterconnection x.now }
-    ensures value { result ≡ net-export market x.now }
+    ensures value { result ≡ net_export market x.now }
     ensures bound { unsigned_abs result ≤ 2000000 }
 {
     match market {
@@ -163,7 +163,7 @@ fn net_export(market: Market, x: &Interconnection) -> i64
 
 fn exchange_energy(market: Market, x: &Interconnection) -> i64
     requires { ValidInterconnection x.now }
-    ensures value { result ≡ exchange-energy market x.now }
+    ensures value { result ≡ exchange_energy market x.now }
     ensures bound { unsigned_abs result ≤ 4000000 }
 {
     match market {
@@ -180,7 +180,7 @@ fn exchange_energy(market: Market, x: &Interconnection) -> i64
 pub fn exchange_term(prices: &PriceGrid, market: Market, x: &Interconnection) -> i64
     requires prices { All ValidPrice prices.now.prices.now }
     requires interconnection { ValidInterconnection x.now }
-    ensures value { result ≡ exchange-term prices.now.prices.now market x.now }
+    ensures value { result ≡ exchange_term prices.now.prices.now market x.now }
     ensures bound { unsigned_abs result ≤ 40000000000000 }
 {
     product(
@@ -200,7 +200,7 @@ fn imbalance_price(x: &Interconnection) -> i64
 // Imbalance price × real-time net export.
 pub fn imbalance_term(x: &Interconnection) -> i64
     requires { ValidInterconnection x.now }
-    ensures value { result ≡ imbalance-term x.now }
+    ensures value { result ≡ imbalance_term x.now }
     ensures bound { unsigned_abs result ≤ 20000000000000 }
 {
     product(imbalance_price(x), net_export(Market::RealTime, x))
@@ -210,7 +210,7 @@ pub fn imbalance_term(x: &Interconnection) -> i64
 fn priced_export(prices: &PriceGrid, price: Market, flow: Market, x: &Interconnection) -> i64
     requires prices { All ValidPrice prices.now.prices.now }
     requires interconnection { ValidInterconnection x.now }
-    ensures value { result ≡ market-price prices.now.prices.now price x.now.node x.now.hour *ℤ net-export flow x.now }
+    ensures value { result ≡ market_price prices.now.prices.now price x.now.node x.now.hour *ℤ net_export flow x.now }
     ensures bound { unsigned_abs result ≤ 20000000000000 }
 {
     product(
@@ -244,7 +244,7 @@ fn less(a: i64, b: i64) -> i64
 pub fn imbalance_value(prices: &PriceGrid, x: &Interconnection) -> i64
     requires prices { All ValidPrice prices.now.prices.now }
     requires interconnection { ValidInterconnection x.now }
-    ensures value { result ≡ imbalance-value prices.now.prices.now x.now }
+    ensures value { result ≡ imbalance_value prices.now.prices.now x.now }
     ensures bound { unsigned_abs result ≤ 80000000000000 }
 {
     let scheduled = priced_export(prices, Market::DayAhead, Market::DayAhead, x);
@@ -256,7 +256,7 @@ pub fn imbalance_value(prices: &PriceGrid, x: &Interconnection) -> i64
 // A fine in mils.
 pub fn fine_mils(x: &Fine) -> i64
     requires { ValidFine x.now }
-    ensures value { result ≡ fine-mils x.now }
+    ensures value { result ≡ fine_mils x.now }
     ensures bound { unsigned_abs result ≤ 1000000000000000 }
 {
     (x.centavos * 1000) as i64

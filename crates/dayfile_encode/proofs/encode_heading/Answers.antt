@@ -2,9 +2,9 @@ use Rattle.std.proofs.Common.{◌≡◌, sym, ap, ◌∙◌}
 use Rattle.std.specs.Option.{ok_or}
 use Rattle.faults.specs.Places.{plain}
 use Rattle.faults.specs.declared.refusal.Refusal.TheVariants.{OutOfRange}
-use Rattle.dayfile.specs.Headings.{heading-of}
+use Rattle.dayfile.specs.Headings.{heading_of}
 use Rattle.dayfile.proofs.Made.{made}
-use Rattle.decoding.specs.Decoded.{decoded-heading}
+use Rattle.decoding.specs.Decoded.{decoded_heading}
 use Rattle.decoding.specs.Fields.{two_bytes}
 use Rattle.dayfile_encode.proofs.encode_heading.Goals as goal
 
@@ -16,7 +16,7 @@ returns c =
     record {
       bytes = bytes;
       back =
-          ap decoded-heading bytes
-          ∙ ap (λ y. ok_or (heading-of y h.month h.day h.hours h.accounts h.nodes h.interconnections) (plain OutOfRange)) year
+          ap decoded_heading bytes
+          ∙ ap (λ y. ok_or (heading_of y h.month h.day h.hours h.accounts h.nodes h.interconnections) (plain OutOfRange)) year
           ∙ ap (λ x. ok_or x (plain OutOfRange)) (made h);
     }

@@ -1,5 +1,5 @@
-use Rattle.settlement_laws.proofs.Balance.{parts-are-near, shares-are-whole, sheets-balance}
+use Rattle.settlement_laws.proofs.Balance.{parts_are_near, shares_are_whole, sheets_balance}
 use Rattle.settlement_laws.proofs.sheets_stand.Goals as goal
 
 pub returns : goal.returns
-returns c = record { balance = sheets-balance; whole = shares-are-whole; near = parts-are-near }
+returns c = record { balance = sheets_balance; whole = shares_are_whole; near = parts_are_near }

@@ -2,7 +2,7 @@ use Rattle.std.proofs.Common.{◌≡◌, ℕ, ◌≤◌, length, sym, ap, ◌∙
 use Rattle.std.proofs.lemmas.List.FromFn.{get_or-map-range_with_len, length-map-range_with_len}
 use Rattle.std.proofs.lemmas.List.{ext_get_or}
 use Rattle.std.specs.List.{AllByRecursion as All}
-use Rattle.amounts.specs.Buying.{bought-sum}
+use Rattle.amounts.specs.Buying.{bought_sum}
 use Rattle.amounts.proofs.purchases.put_purchases.Goals as goal
 
 pub add-purchases-requires : goal.add-purchases-requires
@@ -16,7 +16,7 @@ add-purchases-requires c = record {
 pub returns : goal.returns
 returns c =
     let n = length c.args.weights.now in
-    let f : ℕ → ℕ = λ account. bought-sum c.args.hour account c.args.positions.now in
+    let f : ℕ → ℕ = λ account. bought_sum c.args.hour account c.args.positions.now in
     let long : length c.add-purchases.new.weights ≡ n = c.add-purchases.auto.weights ∙ c.clear.auto.weights in
     ext_get_or 0 c.add-purchases.new.weights _ (long ∙ sym (length-map-range_with_len f 1 n))
     (λ k h. c.add-purchases.ensures k h ∙ sym (get_or-map-range_with_len f 1 n k _ 0 (omega (arith, h, long)) (omega arith)))

@@ -1,5 +1,5 @@
-use Rattle.codes.proofs.Codes.{code-in-row}
+use Rattle.codes.proofs.Codes.{code_in_row}
 use Rattle.codes.proofs.code.code_in.Goals as goal
 
 pub returns : goal.returns
-returns c = code-in-row _ c.args.index c.requires
+returns c = code_in_row _ c.args.index c.requires

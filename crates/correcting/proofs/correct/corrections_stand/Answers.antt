@@ -1,5 +1,5 @@
-use Rattle.correcting.proofs.Corrected.{correcting-keeps-sound}
+use Rattle.correcting.proofs.Corrected.{correcting_keeps_sound}
 use Rattle.correcting.proofs.correct.corrections_stand.Goals as goal
 
 pub returns : goal.returns
-returns c = record { corrected = correcting-keeps-sound }
+returns c = record { corrected = correcting_keeps_sound }

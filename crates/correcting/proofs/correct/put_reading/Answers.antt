@@ -1,7 +1,7 @@
 use Rattle.std.proofs.Common.{◌≡◌, length, refl, ap, ◌∙◌, arith}
 use Rattle.std.proofs.lemmas.List.{with_items_is}
-use Rattle.book.proofs.Held.{same-records}
-use Rattle.correcting.specs.Readings.{read-position, reread-at}
+use Rattle.book.proofs.Held.{same_records}
+use Rattle.correcting.specs.Readings.{read_position, reread_at}
 use Rattle.correcting.proofs.correct.put_reading.Goals as goal
 
 pub returns : goal.returns
@@ -10,7 +10,7 @@ returns c =
     let v = c.as-mut-slice.ensures in
     let reading = c.args.reading in
     let long : length c.replace-reading.new.positions ≡ c.args.book.now.positions.len = omega (arith, c.replace-reading.auto.positions) in
-    same-records _ _ refl refl
+    same_records _ _ refl refl
     (with_items_is c.args.book.now.positions c.replace-reading.new.positions long ∙ e.after
-    ∙ ap (λ xs. reread-at xs (read-position xs reading) reading.real_time) v.value)
+    ∙ ap (λ xs. reread_at xs (read_position xs reading) reading.real_time) v.value)
     refl refl refl refl

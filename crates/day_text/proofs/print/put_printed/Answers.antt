@@ -1,17 +1,17 @@
 use Rattle.std.proofs.Common.{◌≡◌}
 use Rattle.book.specs.Books.{held}
-use Rattle.loading.specs.Loading.{file-records}
-use Rattle.day_text.proofs.Printed.{accepted-load, err-answer}
+use Rattle.loading.specs.Loading.{file_records}
+use Rattle.day_text.proofs.Printed.{accepted_load, err_answer}
 use Rattle.day_text.proofs.print.put_printed.Goals as goal
 
 pub put-settled-requires : goal.put-settled-requires
 put-settled-requires c =
-    let loaded = accepted-load c.args.file.now (held c.args.book.now) (held c.load.new.book) c.in-Ok.ensures.value c.in-Ok.ensures.after in
+    let loaded = accepted_load c.args.file.now (held c.args.book.now) (held c.load.new.book) c.in-Ok.ensures.value c.in-Ok.ensures.after in
     record { sound = loaded.sound; ledger = c.requires.ledger; buffer = c.requires.buffer }
 
 pub returns-in-Ok : goal.returns-in-Ok
 returns-in-Ok c =
-    let loaded = accepted-load c.args.file.now (held c.args.book.now) (held c.load.new.book) c.in-Ok.ensures.value c.in-Ok.ensures.after in
+    let loaded = accepted_load c.args.file.now (held c.args.book.now) (held c.load.new.book) c.in-Ok.ensures.value c.in-Ok.ensures.after in
     record {
       answer = rw loaded.records c.put-settled.ensures.answer;
       after = rw loaded.records c.put-settled.ensures.after;
@@ -20,7 +20,7 @@ returns-in-Ok c =
 
 pub returns-in-Err : goal.returns-in-Err
 returns-in-Err c =
-    let refused = err-answer (file-records c.args.file.now) c.in-Err.fault c.in-Err.ensures.value in
+    let refused = err_answer (file_records c.args.file.now) c.in-Err.fault c.in-Err.ensures.value in
     record {
       answer = rw refused c.put-fault.ensures.answer;
       after = rw refused c.put-fault.ensures.after;

@@ -2,10 +2,10 @@ use Rattle.std.proofs.Common.{◌≡◌, ℕ, List, ◌∷◌, length, drop, vec
 use Rattle.book.specs.Books.{held}
 use Rattle.day.specs.Memory.{Memory, memory}
 use Rattle.history.specs.Events.{Lent, lent}
-use Rattle.history.specs.Replays.{Stopped, calls-in}
+use Rattle.history.specs.Replays.{Stopped, calls_in}
 use Rattle.history.specs.declared.states.Day.{Day}
 use Rattle.history.specs.declared.steps.Answer.TheVariants.{Done}
-use Rattle.history.proofs.Replaying.{ends, ran_on, step-more, stops}
+use Rattle.history.proofs.Replaying.{ends, ran_on, step_more, stops}
 use Rattle.history.proofs.replay.make_steps.Goals as goal
 
 pub returns-in-Err : goal.returns-in-Err
@@ -19,7 +19,7 @@ returns-in-NotTaken g c =
     let entries : length c.begin.new.ledger ≡ length c.args.ledger.now = omega arith in
     let room : length c.loop-step.buffer ≡ length c.args.buffer.now = omega arith in
     ran_on parts _ c.args.start.now c.args.steps.now _ _ c.loop-step.day c.in-NotTaken.same _ _ _ _ _ _ c.loop-step.step-index refl entries many c.loop-step.invariant.2 same.0 same.1 same.2
-    (subst (λ (n : ℕ). Stopped (calls-in parts n (drop c.loop-step.step-index c.args.steps.now)) c.loop-step.day) room
+    (subst (λ (n : ℕ). Stopped (calls_in parts n (drop c.loop-step.step-index c.args.steps.now)) c.loop-step.day) room
     (stops parts _ c.args.steps.now c.loop-step.step-index c.step-item.result c.loop-step.day c.loop-step-test.true (search rules) same.3))
 
 pub loop-step-preserved : goal.loop-step-preserved
@@ -29,7 +29,7 @@ loop-step-preserved g c =
     let pushed = c.push-reserved.ensures in (
       omega arith,
       omega arith,
-      rw pushed.items (step-more g.R.Sharing.parts _ c.args.steps.now _ Done _ c.loop-step.step-index c.step-item.result c.in-Made.answer c.loop-step.day c.in-Made.next _ _ _ _ _ _ inv.2 c.in-Made.ensures room c.loop-step-test.true (search rules)),
+      rw pushed.items (step_more g.R.Sharing.parts _ c.args.steps.now _ Done _ c.loop-step.step-index c.step-item.result c.in-Made.answer c.loop-step.day c.in-Made.next _ _ _ _ _ _ inv.2 c.in-Made.ensures room c.loop-step-test.true (search rules)),
     )
 
 pub returns : goal.returns

@@ -3,10 +3,10 @@ use borrow.Author.Differences.{ints}
 use Rattle.std.proofs.lemmas.List.{take_all}
 use Rattle.std.specs.List.{AllByRecursion as All}
 use Rattle.codes.specs.Sums.{sum_over}
-use Rattle.valuation.specs.Blanks.{no-failure}
+use Rattle.valuation.specs.Blanks.{no_failure}
 use Rattle.amounts.proofs.Adding.{sum_more}
-use Rattle.items.specs.Items.{at-least-zero, failed-among, penalty-among}
-use Rattle.items.proofs.AtLeastZero.{zero-le}
+use Rattle.items.specs.Items.{at_least_zero, failed_among, penalty_among}
+use Rattle.items.proofs.AtLeastZero.{zero_le}
 use Rattle.items.proofs.penalties.put_penalties.Goals as goal
 
 pub loop-failure-init : goal.loop-failure-init
@@ -30,16 +30,16 @@ pub loop-failure-preserved : goal.loop-failure-preserved
 loop-failure-preserved c = λ k h.
     let fs = c.args.failures.now in
     let i = c.loop-failure.failure-index in
-    let f = get_or fs i no-failure in
+    let f = get_or fs i no_failure in
     let rs = c.args.reserves.now in
     let long : length c.put-failed.new.sums ≡ length c.loop-failure.penalties = omega (arith, c.put-failed.auto.sums, c.loop-failure.auto.sums, c.loop-failure.auto.penalties, c.requires.long, c.clear.auto.sums) in
     let within : k < length c.loop-failure.penalties = omega (arith, h, c.add-penalties.auto.penalties) in
     let was = c.loop-failure.invariant k within in
-    let more = sum_more (penalty-among rs (k + 1)) fs i no-failure (omega arith) in
-    let is : at-least-zero (get_or c.put-failed.new.sums k (pos 0)) ≡ penalty-among rs (k + 1) f = ap at-least-zero (c.put-failed.ensures.value k (omega (arith, within, long))) in
+    let more = sum_more (penalty_among rs (k + 1)) fs i no_failure (omega arith) in
+    let is : at_least_zero (get_or c.put-failed.new.sums k (pos 0)) ≡ penalty_among rs (k + 1) f = ap at_least_zero (c.put-failed.ensures.value k (omega (arith, within, long))) in
     let grew = c.add-penalties.ensures k h in
-    let small = zero-le (get_or c.put-failed.new.sums k (pos 0)) in
+    let small = zero_le (get_or c.put-failed.new.sums k (pos 0)) in
     (omega (arith, ints, grew, is, was.0, more), omega (arith, ints, grew, was.1, small, c.put-failed.ensures.bound k (omega (arith, within, long))))
 
 pub returns : goal.returns
-returns c = λ k h. (c.loop-failure.invariant k h).0 ∙ ap (sum_over (penalty-among c.args.reserves.now (k + 1))) (take_all c.loop-failure.failure-index c.args.failures.now (omega arith))
+returns c = λ k h. (c.loop-failure.invariant k h).0 ∙ ap (sum_over (penalty_among c.args.reserves.now (k + 1))) (take_all c.loop-failure.failure-index c.args.failures.now (omega arith))

@@ -1,13 +1,13 @@
 use Rattle.std.proofs.Common.{Err, sym, ap, ◌∙◌, arith}
 use Rattle.std.proofs.lemmas.Bool.{leb-false, leb-true}
 use Rattle.codes.specs.Cells.{cell}
-use Rattle.ledger.specs.Issues.{notes-of}
-use Rattle.ledger.proofs.Adding.{new-fit, new-full}
+use Rattle.ledger.specs.Issues.{notes_of}
+use Rattle.ledger.proofs.Adding.{new_fit, new_full}
 use Rattle.ledger.proofs.issue.add_notes.Goals as goal
 
 pub returns-then-not-has-room : goal.returns-then-not-has-room
 returns-then-not-has-room c =
-    let both = new-full c.args.ledger.now (notes-of c.args.issue (cell c.args.rest.now)) c.args.notes (omega (arith, c.count-notes.ensures c.args.issue, leb-false _ _ (sym c.if-not-has-room.ensures))) in
+    let both = new_full c.args.ledger.now (notes_of c.args.issue (cell c.args.rest.now)) c.args.notes (omega (arith, c.count-notes.ensures c.args.issue, leb-false _ _ (sym c.if-not-has-room.ensures))) in
     record { answer = ap (λ f. Err f) c.plain.ensures ∙ both.0; after = both.1 }
 
 pub put-notes-end-requires : goal.put-notes-end-requires
@@ -18,5 +18,5 @@ overflow-sub-result c = omega (arith, c.put-notes-end.ensures.next)
 
 pub returns : goal.returns
 returns c =
-    let both = new-fit c.args.ledger.now c.put-notes-end.new.ledger (notes-of c.args.issue (cell c.args.rest.now)) c.args.notes c.put-notes-end.result c.put-notes-end.ensures in
+    let both = new_fit c.args.ledger.now c.put-notes-end.new.ledger (notes_of c.args.issue (cell c.args.rest.now)) c.args.notes c.put-notes-end.result c.put-notes-end.ensures in
     record { answer = both.0; after = both.1 }

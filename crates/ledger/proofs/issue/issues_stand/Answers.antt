@@ -1,5 +1,5 @@
-use Rattle.ledger.proofs.Laws.{appended, balanced, borne, halves, kept-sound, reached}
+use Rattle.ledger.proofs.Laws.{appended, balanced, borne, halves, kept_sound, reached}
 use Rattle.ledger.proofs.issue.issues_stand.Goals as goal
 
 pub returns : goal.returns
-returns c = record { append = appended; reach = reached; balances = balanced; bear = borne; keep = kept-sound; halves = halves }
+returns c = record { append = appended; reach = reached; balances = balanced; bear = borne; keep = kept_sound; halves = halves }

@@ -1,13 +1,13 @@
 use Rattle.std.proofs.Common.{◌∙◌, w64}
 use Rattle.std.proofs.lemmas.Int.{to_z-of_z}
 use Rattle.std.proofs.lemmas.Bool.{false≢true}
-use Rattle.ledger.proofs.Counting.{codes-known, no_code, number_of, off, small-off}
+use Rattle.ledger.proofs.Counting.{codes_known, no_code, number_of, off, small_off}
 use Rattle.ledger.proofs.issue.take_off.Goals as goal
 
 pub less-left-requires : goal.less-left-requires
 less-left-requires c =
     let n = c.args.note.now in
-    small-off c.args.rest.now n c.in-Some.code c.requires (number_of n.code c.in-Some.code c.in-Some.ensures)
+    small_off c.args.rest.now n c.in-Some.code c.requires (number_of n.code c.in-Some.code c.in-Some.ensures)
 
 pub returns-in-Some : goal.returns-in-Some
 returns-in-Some c =
@@ -15,7 +15,7 @@ returns-in-Some c =
     record {
       each =
           off c.args.rest.now c.put.new.self n c.in-Some.code (number_of n.code c.in-Some.code c.in-Some.ensures) _
-          (to_z-of_z w64 c.less-left.result (record { sfits = c.less-left.type-inv }) ∙ c.less-left.ensures) (codes-known n c.requires.coded).1 c.put.ensures;
+          (to_z-of_z w64 c.less-left.result (record { sfits = c.less-left.type-inv }) ∙ c.less-left.ensures) (codes_known n c.requires.coded).1 c.put.ensures;
     }
 
 pub returns-in-default : goal.returns-in-default

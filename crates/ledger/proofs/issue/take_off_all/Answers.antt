@@ -2,14 +2,14 @@ use Rattle.std.proofs.Common.{refl, subst}
 use Rattle.std.proofs.lemmas.List.{take_all}
 use Rattle.ledger.specs.Issues.{noted}
 use Rattle.ledger.specs.Steps.{TakenOff}
-use Rattle.ledger.proofs.Counting.{taken_more, taken_none, takeable-next}
+use Rattle.ledger.proofs.Counting.{taken_more, taken_none, takeable_next}
 use Rattle.ledger.proofs.issue.take_off_all.Goals as goal
 
 pub loop-note-init : goal.loop-note-init
 loop-note-init c = taken_none c.args.rest.now c.args.rest.now refl
 
 pub take-off-requires : goal.take-off-requires
-take-off-requires c = takeable-next c.args.rest.now c.loop-note.rest c.args.notes.now c.loop-note.note-index c.loop-note-test.true c.loop-note.invariant c.requires
+take-off-requires c = takeable_next c.args.rest.now c.loop-note.rest c.args.notes.now c.loop-note.note-index c.loop-note-test.true c.loop-note.invariant c.requires
 
 pub loop-note-preserved : goal.loop-note-preserved
 loop-note-preserved c =

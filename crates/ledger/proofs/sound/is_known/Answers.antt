@@ -1,7 +1,7 @@
 use Rattle.std.proofs.Common.{is_some, sym, ap, ◌∙◌}
 use Rattle.std.proofs.lemmas.Bool.{and_left}
 use Rattle.codes.specs.Codes.{code_of}
-use Rattle.codes.specs.Parties.{party-place}
+use Rattle.codes.specs.Parties.{party_place}
 use Rattle.ledger.specs.Notes.{known}
 use Rattle.ledger.proofs.Soundness.{past}
 use Rattle.ledger.proofs.sound.is_known.Goals as goal
@@ -9,11 +9,11 @@ use Rattle.ledger.proofs.sound.is_known.Goals as goal
 pub returns-then-is-some : goal.returns-then-is-some
 unfolding known
 returns-then-is-some c =
-    c.is-some-then-is-some.ensures ∙ ap is_some c.party-place.ensures.value
-    ∙ sym (past (is_some (code_of c.args.note.now.code)) (is_some (party-place c.args.note.now.party)) (sym (c.if-is-some.ensures ∙ ap is_some c.from-number.ensures)))
+    c.is-some-then-is-some.ensures ∙ ap is_some c.party_place.ensures.value
+    ∙ sym (past (is_some (code_of c.args.note.now.code)) (is_some (party_place c.args.note.now.party)) (sym (c.if-is-some.ensures ∙ ap is_some c.from-number.ensures)))
 
 pub returns-else-is-some : goal.returns-else-is-some
 unfolding known
 returns-else-is-some c =
     c.if-is-some.false
-    ∙ sym (and_left (is_some (code_of c.args.note.now.code)) (is_some (party-place c.args.note.now.party)) (sym (c.if-is-some.ensures ∙ ap is_some c.from-number.ensures)))
+    ∙ sym (and_left (is_some (code_of c.args.note.now.code)) (is_some (party_place c.args.note.now.party)) (sym (c.if-is-some.ensures ∙ ap is_some c.from-number.ensures)))

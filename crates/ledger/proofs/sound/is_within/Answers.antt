@@ -1,6 +1,6 @@
-use Rattle.ledger.specs.Notes.{within-limit}
+use Rattle.ledger.specs.Notes.{within_limit}
 use Rattle.ledger.proofs.sound.is_within.Goals as goal
 
 pub returns : goal.returns
-unfolding within-limit
-returns c = c.all-within.ensures
+unfolding within_limit
+returns c = c.all_within.ensures

@@ -2,7 +2,7 @@ use Rattle.std.proofs.Common.{ap, ◌∙◌}
 use Rattle.cutting.specs.Cuts.{cut_at, past}
 use Rattle.book.specs.Books.{answer, held, opened}
 use Rattle.loading.specs.Loading.{opening}
-use Rattle.loading.proofs.Steps.{load-err, load_ok}
+use Rattle.loading.proofs.Steps.{load_err, load_ok}
 use Rattle.loading.proofs.load.load.Goals as goal
 
 pub returns-in-Ok : goal.returns-in-Ok
@@ -19,5 +19,5 @@ pub returns-in-Err : goal.returns-in-Err
 returns-in-Err c =
     let e = c.in-Err.ensures in
     let n = c.new-reader.ensures.file in
-    let p = load-err c.args.file.now (held c.args.book.now) c.in-Err.fault (e.value ∙ ap (λ f. answer (opening f)) n) in
+    let p = load_err c.args.file.now (held c.args.book.now) c.in-Err.fault (e.value ∙ ap (λ f. answer (opening f)) n) in
     record { value = p.0; after = c.clear.ensures ∙ p.1 }

@@ -1,7 +1,7 @@
 use Rattle.std.proofs.Common.{◌+◌, length, is_ok, Err, sym, ap, ◌∙◌}
 use Rattle.book.specs.Books.{held}
-use Rattle.loading.specs.Loading.{goes_on, is-over}
-use Rattle.loading.proofs.Steps.{enters-err, enters-ok}
+use Rattle.loading.specs.Loading.{goes_on, is_over}
+use Rattle.loading.proofs.Steps.{enters_err, enters_ok}
 use Rattle.loading.proofs.load.take.Goals as goal
 
 pub returns-in-Ok : goal.returns-in-Ok
@@ -9,11 +9,11 @@ returns-in-Ok c =
     let part = c.args.part.now in
     let e = c.in-Ok.ensures in
     ap (goes_on (c.args.offset + length part)) e.after
-    ∙ enters-ok c.args.is-last c.args.offset (held c.args.book.now) part
+    ∙ enters_ok c.args.is-last c.args.offset (held c.args.book.now) part
     (sym (c.if-is-ok.ensures.value ∙ ap is_ok c.decode-end.ensures)) e.value
 
 pub returns-in-Err : goal.returns-in-Err
 returns-in-Err c =
-    ap (λ f. is-over (Err f)) c.at-offset.ensures
-    ∙ enters-err c.args.is-last c.args.offset (held c.args.book.now) c.args.part.now c.in-Err.fault
+    ap (λ f. is_over (Err f)) c.at-offset.ensures
+    ∙ enters_err c.args.is-last c.args.offset (held c.args.book.now) c.args.part.now c.in-Err.fault
     (sym (c.if-is-ok.ensures.value ∙ ap is_ok c.decode-end.ensures)) c.in-Err.ensures.value

@@ -1,9 +1,9 @@
 use Rattle.std.proofs.Common.{◌≡◌, ℕ, ◌+◌, ◌-◌, ◌<◌, List, [], ◌∷◌, length, get_or, drop, sym, ap, ◌∙◌, subst, arith}
 use Rattle.std.proofs.lemmas.List.{drop_all, drop_more}
 use Rattle.dayfile.specs.declared.record.Price.{Price}
-use Rattle.price_grid.specs.Blanks.{no-price}
+use Rattle.price_grid.specs.Blanks.{no_price}
 use Rattle.price_grid.specs.Grid.{Indexes}
-use Rattle.price_grid.proofs.Spots.{indexes-more}
+use Rattle.price_grid.proofs.Spots.{indexes_more}
 use Rattle.price_grid.proofs.grid.index_prices.Goals as goal
 
 pub loop-i-init : goal.loop-i-init
@@ -16,11 +16,11 @@ loop-i-preserved c =
     let xs = c.args.prices.now in
     let i = c.loop-i.i in
     let k = i - 1 in
-    let p = get_or xs k no-price in
+    let p = get_or xs k no_price in
     let back : i ≡ k + 1 = omega arith in
-    let rest : p ∷ drop i xs ≡ drop k xs = ap (λ n. p ∷ drop n xs) back ∙ sym (drop_more xs k no-price (omega arith)) in
+    let rest : p ∷ drop i xs ≡ drop k xs = ap (λ n. p ∷ drop n xs) back ∙ sym (drop_more xs k no_price (omega arith)) in
     subst (λ (ps : List Price). Indexes c.put-price.new.spots ps) rest
-    (indexes-more c.loop-i.spots c.put-price.new.spots p (drop i xs) c.put-price.ensures c.loop-i.invariant)
+    (indexes_more c.loop-i.spots c.put-price.new.spots p (drop i xs) c.put-price.ensures c.loop-i.invariant)
 
 pub returns : goal.returns
 returns c =

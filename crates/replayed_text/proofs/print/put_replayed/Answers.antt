@@ -2,9 +2,9 @@ use Rattle.std.proofs.Common.{length, vec_items, sym, ap, ◌∙◌, arith}
 use Rattle.book.specs.Books.{held}
 use Rattle.day.specs.Memory.{memory}
 use Rattle.history.specs.Events.{lent}
-use Rattle.text.specs.Lines.{refused-text}
-use Rattle.text.specs.Written.{left-if-fits}
-use Rattle.replayed_text.proofs.Printed.{run_ends, run-refused}
+use Rattle.text.specs.Lines.{refused_text}
+use Rattle.text.specs.Written.{left_if_fits}
+use Rattle.replayed_text.proofs.Printed.{run_ends, run_refused}
 use Rattle.replayed_text.proofs.print.put_replayed.Goals as goal
 
 pub returns-in-Ok : goal.returns-in-Ok
@@ -24,9 +24,9 @@ returns-in-Refused c =
     let fault = c.in-Refused.fault in
     let before = memory (held c.args.book.now) c.args.table.now c.args.ledger.now in
     let after = memory (held c.replay.new.book) c.replay.new.table c.replay.new.ledger in
-    let run = run-refused c.first-issue-steps.result c.args.file before after (lent c.args.page.now c.args.buffer.now) (lent c.replay.new.page c.replay.new.buffer) c.in-Err.why fault c.in-Refused.is c.in-Err.ensures.run in
+    let run = run_refused c.first-issue-steps.result c.args.file before after (lent c.args.page.now c.args.buffer.now) (lent c.replay.new.page c.replay.new.buffer) c.in-Err.why fault c.in-Refused.is c.in-Err.ensures.run in
     record {
       answer = c.put-fault.ensures.answer ∙ ap length (sym run.0);
-      after = c.put-fault.ensures.after ∙ ap (left-if-fits (refused-text fault)) run.1 ∙ ap (λ t. left-if-fits t c.args.buffer.now) (sym run.0);
+      after = c.put-fault.ensures.after ∙ ap (left_if_fits (refused_text fault)) run.1 ∙ ap (λ t. left_if_fits t c.args.buffer.now) (sym run.0);
       within = omega (arith, c.put-fault.ensures.within, ap length run.1);
     }

@@ -1,19 +1,19 @@
 use Rattle.std.proofs.Common.{sym, ap, ◌∙◌}
-use Rattle.rows.proofs.Places.{place_found, place-none-more, place-none-all, within_end, within-here}
+use Rattle.rows.proofs.Places.{place_found, place_none_more, place_none_all, within_end, within_here}
 use Rattle.rows.proofs.table.count_unlike.Goals as goal
 
 pub returns-then-is-alike : goal.returns-then-is-alike
 returns-then-is-alike g c =
     let test = g.T.Row.terms.alike c.args.row.now in
     place_found test _ _ _ c.loop-i-test.true c.loop-i.invariant (sym (c.if-is-alike.ensures ∙ ap test c.index-rows-i.is))
-    ∙ within-here _ _ c.loop-i-test.true
+    ∙ within_here _ _ c.loop-i-test.true
 
 pub loop-i-preserved : goal.loop-i-preserved
 loop-i-preserved g c =
     let test = g.T.Row.terms.alike c.args.row.now in
-    place-none-more test _ _ _ c.loop-i-test.true c.loop-i.invariant
+    place_none_more test _ _ _ c.loop-i-test.true c.loop-i.invariant
     (sym (c.if-is-alike.ensures ∙ ap test c.index-rows-i.is))
 
 pub returns : goal.returns
 returns g c =
-    place-none-all (g.T.Row.terms.alike c.args.row.now) _ _ c.loop-i-test.false c.loop-i.invariant ∙ within_end _
+    place_none_all (g.T.Row.terms.alike c.args.row.now) _ _ c.loop-i-test.false c.loop-i.invariant ∙ within_end _

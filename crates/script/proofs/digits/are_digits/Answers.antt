@@ -1,7 +1,7 @@
 use Rattle.std.proofs.Common.{◌≡◌, true, false, ltb, get_or, sym, ap, ◌∙◌, arith}
 use Rattle.std.proofs.lemmas.Bool.{and_left, le-ltb, lt-ltb}
 use Rattle.std.specs.Char.{digit_value}
-use Rattle.script.proofs.Steps.{digits-all, digits_more, past}
+use Rattle.script.proofs.Steps.{digits_all, digits_more, past}
 use Rattle.script.proofs.digits.are_digits.Goals as goal
 
 pub returns-then-digit-value-base : goal.returns-then-digit-value-base
@@ -21,4 +21,4 @@ loop-byte-preserved c =
     c.loop-byte.invariant ∙ digits_more c.args.base w i c.loop-byte-test.true ∙ past _ _ one
 
 pub returns : goal.returns
-returns c = sym (c.loop-byte.invariant ∙ digits-all c.args.base c.args.word.now c.loop-byte.byte-index c.loop-byte-test.false)
+returns c = sym (c.loop-byte.invariant ∙ digits_all c.args.base c.args.word.now c.loop-byte.byte-index c.loop-byte-test.false)

@@ -1,15 +1,15 @@
 use Rattle.std.proofs.Common.{◌++◌, ap, subst}
-use Rattle.codes.specs.Cells.{cell-count}
+use Rattle.codes.specs.Cells.{cell_count}
 use Rattle.statement.specs.Statements.{last_line}
 use Rattle.text.specs.Written.{Wrote}
 use Rattle.text.proofs.Writing.{after}
-use Rattle.script.specs.Sheets.{lines-to, sheet-text}
+use Rattle.script.specs.Sheets.{lines_to, sheet_text}
 use Rattle.script.proofs.sheet.put_sheet.Goals as goal
 
 pub returns : goal.returns
-unfolding sheet-text
+unfolding sheet_text
 returns c =
-    let lines = lines-to cell-count c.args.page.now in
+    let lines = lines_to cell_count c.args.page.now in
     subst (λ z. Wrote c.args.buffer.now 0 z c.put-end.new.buffer c.put-end.result)
     (ap (λ k. lines ++ last_line k) c.count-lines.ensures)
     (after lines (last_line c.count-lines.result) c.put-lines-end.ensures.wrote c.put-end.ensures)

@@ -1,6 +1,6 @@
 use Rattle.std.proofs.Common.{◌≡◌, ◌-◌, ◌++◌, length, is_ok, vec_items, sym, ap, ◌∙◌, subst, arith}
 use Rattle.std.proofs.ResultArms.{chosen}
-use Rattle.script.specs.Words.{line-words, uncommented, words-within}
+use Rattle.script.specs.Words.{line_words, uncommented, words_within}
 use Rattle.script.proofs.Cutting.{no_more, one_more, texts}
 use Rattle.script.proofs.words.words_of.Goals as goal
 
@@ -8,7 +8,7 @@ pub loop-word-init : goal.loop-word-init
 loop-word-init c =
     let most = length (uncommented c.args.line.now) in
     let e = c.before-comment-rest.ensures in
-    (most, omega (arith, ap length e), (λ k. texts (c.new-words.ensures.items k) ++ words-within most (e k)))
+    (most, omega (arith, ap length e), (λ k. texts (c.new-words.ensures.items k) ++ words_within most (e k)))
 
 pub loop-word-preserved : goal.loop-word-preserved
 loop-word-preserved c =
@@ -17,9 +17,9 @@ loop-word-preserved c =
     let pushed = chosen _ _ _ _ c.push.ensures.items (ap is_ok c.in-ok-push.was) in (
       inv.0 - 1,
       omega (arith, inv.1, cut.3),
-      subst (λ l. texts l ++ words-within (inv.0 - 1) c.in-Some.after.now ≡ line-words c.args.line.now) (sym pushed)
-          (one_more inv.0 (vec_items c.loop-word.words) c.in-Some.word c.loop-word.rest.now c.in-Some.after.now (line-words c.args.line.now) cut.0 (omega (arith, inv.1, cut.3)) cut.1 cut.2 inv.2),
+      subst (λ l. texts l ++ words_within (inv.0 - 1) c.in-Some.after.now ≡ line_words c.args.line.now) (sym pushed)
+          (one_more inv.0 (vec_items c.loop-word.words) c.in-Some.word c.loop-word.rest.now c.in-Some.after.now (line_words c.args.line.now) cut.0 (omega (arith, inv.1, cut.3)) cut.1 cut.2 inv.2),
     )
 
 pub returns : goal.returns
-returns c = no_more c.loop-word.invariant.0 (vec_items c.loop-word.words) c.loop-word.rest.now (line-words c.args.line.now) c.in-default.ensures c.loop-word.invariant.2
+returns c = no_more c.loop-word.invariant.0 (vec_items c.loop-word.words) c.loop-word.rest.now (line_words c.args.line.now) c.in-default.ensures c.loop-word.invariant.2

@@ -7,12 +7,12 @@ use Rattle.codes.specs.Cells.{cell}
 use Rattle.codes.specs.Sums.{sum_over}
 use Rattle.amounts.specs.Amounts.{owned_by}
 use Rattle.amounts.proofs.Adding.{sum_more}
-use Rattle.amounts.proofs.Arrays.{owned-le}
-use Rattle.settlement.proofs.Rows.{row_as, row_more, row-none}
+use Rattle.amounts.proofs.Arrays.{owned_le}
+use Rattle.settlement.proofs.Rows.{row_as, row_more, row_none}
 use Rattle.settlement.proofs.adding.add_each.Goals as goal
 
 pub loop-x-init : goal.loop-x-init
-loop-x-init g c = (row-none c.args.table.now c.args.code _ (λ q. refl), λ q. omega arith)
+loop-x-init g c = (row_none c.args.table.now c.args.code _ (λ q. refl), λ q. omega arith)
 
 pub payee-requires : goal.payee-requires
 payee-requires g c =
@@ -48,7 +48,7 @@ loop-x-preserved g c =
     (sym (ap (λ y. owned_by (party y) q (adds y)) c.x-item.is) ∙ sym (λ j. owned_by (c.payee.ensures.value j) q (c.term.ensures.value j))) in (
       row_more c.args.table.now c.loop-x.table c.add.new.table c.args.code _ _ c.payee.result _ c.loop-x.invariant.0 c.add.ensures
           (λ q. step q ∙ ap (λ z. sum_over (λ x. owned_by (party x) q (adds x)) (take i xs) +ℤ owned_by c.payee.result q z) (sym fits)),
-      λ q. omega (arith, ints, step q, c.loop-x.invariant.1 q, owned-le c.payee.result q d 1000000000000000 c.term.ensures.bound),
+      λ q. omega (arith, ints, step q, c.loop-x.invariant.1 q, owned_le c.payee.result q d 1000000000000000 c.term.ensures.bound),
     )
 
 pub returns : goal.returns

@@ -2,12 +2,12 @@ use Rattle.std.proofs.Common.{◌≡◌, ℕ, ◌+◌, get_or, ℤ, pos, ◌+ℤ
 use borrow.Author.Differences.{ints}
 use Rattle.std.proofs.lemmas.Int.{to_z-of_z}
 use Rattle.amounts.specs.Amounts.{owned_by}
-use Rattle.settlement.proofs.Known.{known-account}
-use Rattle.settlement.proofs.Rows.{first-amounts, first_more, first-none, past_first, row_as, row_more, row-none}
+use Rattle.settlement.proofs.Known.{known_account}
+use Rattle.settlement.proofs.Rows.{first_amounts, first_more, first_none, past_first, row_as, row_more, row_none}
 use Rattle.settlement.proofs.adding.add_listed.Goals as goal
 
 pub loop-i-init : goal.loop-i-init
-loop-i-init c = row-none c.args.table.now c.args.code _ (first-none c.args.amounts.now)
+loop-i-init c = row_none c.args.table.now c.args.code _ (first_none c.args.amounts.now)
 
 pub add-requires : goal.add-requires
 add-requires c =
@@ -16,7 +16,7 @@ add-requires c =
     let fits : SFits w64 (get_or xs i (pos 0)) = search rules in
     let z = past_first xs i (i + 1) (omega arith) in
     record {
-      known = known-account (i + 1) (omega arith) (omega (arith, c.requires.few));
+      known = known_account (i + 1) (omega arith) (omega (arith, c.requires.few));
       before = omega (arith, ints, c.loop-i.invariant.row (i + 1), z, c.requires.room (i + 1));
       more = simp to_z-of_z (omega (arith, c.requires.small i (omega arith)));
     }
@@ -27,9 +27,9 @@ loop-i-preserved c =
     let xs = c.args.amounts.now in
     let fits : SFits w64 (get_or xs i (pos 0)) = search rules in
     row_more c.args.table.now c.loop-i.table c.add.new.table c.args.code _ _ (i + 1) _ c.loop-i.invariant c.add.ensures
-    (λ q. first_more xs i q ∙ ap (λ z. first-amounts xs i q +ℤ owned_by (i + 1) q z) (sym (to_z-of_z w64 (get_or xs i (pos 0)) fits)))
+    (λ q. first_more xs i q ∙ ap (λ z. first_amounts xs i q +ℤ owned_by (i + 1) q z) (sym (to_z-of_z w64 (get_or xs i (pos 0)) fits)))
 
 pub returns : goal.returns
 returns c =
     let n : c.loop-i.i ≡ _ = omega arith in
-    row_as c.args.table.now c.loop-i.table c.args.code _ _ (λ q. ap (λ k. first-amounts c.args.amounts.now k q) n) c.loop-i.invariant
+    row_as c.args.table.now c.loop-i.table c.args.code _ _ (λ q. ap (λ k. first_amounts c.args.amounts.now k q) n) c.loop-i.invariant

@@ -3,11 +3,11 @@ use Rattle.std.specs.List.{AllByRecursion as All}
 use Rattle.dayfile.specs.declared.record.Fine.{Fine}
 use Rattle.book.specs.Books.{held}
 use Rattle.codes.specs.Sums.{sum_over}
-use Rattle.valuation.specs.Terms.{fine-mils}
+use Rattle.valuation.specs.Terms.{fine_mils}
 use Rattle.valuation.specs.Valid.{Listed, ValidFine}
 use Rattle.amounts.specs.Amounts.{owned_by}
 use Rattle.bounds.proofs.Facts.{all_map}
-use Rattle.settlement.proofs.PartyRows.{account-row, accounts-same, negated}
+use Rattle.settlement.proofs.PartyRows.{account_row, accounts_same, negated}
 use Rattle.settlement.proofs.Rows.{row_as}
 use Rattle.settlement.proofs.items.add_fines.Goals as goal
 
@@ -17,10 +17,10 @@ add-each-requires c =
     let r = held c.args.book.now in
     let e = sym c.as-slice.ensures.value in
     record {
-      few = subst (λ (xs : List Fine). length xs ≤ 1000) e (omega (arith, s.few-fines));
+      few = subst (λ (xs : List Fine). length xs ≤ 1000) e (omega (arith, s.few_fines));
       valid = subst (λ (xs : List Fine). All ValidFine xs) e s.fines;
       listed = subst (λ (xs : List Fine). All (λ x. (1 ≤ x.account) × (x.account ≤ 32)) xs) e
-          (all_map (λ x. Listed r x.account) _ (λ x p. (p.0, omega (arith, p.1, s.few))) r.fines s.fine-accounts);
+          (all_map (λ x. Listed r x.account) _ (λ x p. (p.0, omega (arith, p.1, s.few))) r.fines s.fine_accounts);
       room = c.requires.room;
     }
 
@@ -28,7 +28,7 @@ pub returns : goal.returns
 returns c =
     let r = held c.args.book.now in
     row_as c.args.table.now c.add-each.new.table c.args.code _ _
-    (λ q. (λ i. sum_over (λ x. owned_by x.account q (neg_ℤ (fine-mils x))) (c.as-slice.ensures.value i))
-    ∙ account-row (λ x. x.account) (λ x. neg_ℤ (fine-mils x)) r.heading.accounts r.fines c.requires.sound.fine-accounts q
-    ∙ accounts-same r.heading.accounts _ _ (λ a l h. negated (λ x. x.account) fine-mils a r.fines) q)
+    (λ q. (λ i. sum_over (λ x. owned_by x.account q (neg_ℤ (fine_mils x))) (c.as-slice.ensures.value i))
+    ∙ account_row (λ x. x.account) (λ x. neg_ℤ (fine_mils x)) r.heading.accounts r.fines c.requires.sound.fine_accounts q
+    ∙ accounts_same r.heading.accounts _ _ (λ a l h. negated (λ x. x.account) fine_mils a r.fines) q)
     c.add-each.ensures

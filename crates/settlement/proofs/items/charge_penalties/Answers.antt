@@ -1,16 +1,16 @@
 use Rattle.std.proofs.Common.{◌≡◌, ℕ, ◌+◌, ◌-◌, ◌<◌, ◌≤◌, cond, ◌&&◌, leb, length, get_or, ℤ, pos, neg_ℤ, nat_abs, sym, refl, ap, ◌∙◌, arith}
 use Rattle.book.specs.Books.{held}
 use Rattle.items.specs.Items.{penalties}
-use Rattle.bounds.proofs.Limits.{neg-le}
-use Rattle.settlement.proofs.Charged.{charged-small}
-use Rattle.settlement.proofs.PartyRows.{accounts-have, accounts-same}
+use Rattle.bounds.proofs.Limits.{neg_le}
+use Rattle.settlement.proofs.Charged.{charged_small}
+use Rattle.settlement.proofs.PartyRows.{accounts_have, accounts_same}
 use Rattle.settlement.proofs.Rows.{row_as}
 use Rattle.settlement.proofs.items.charge_penalties.Goals as goal
 
 pub negate-requires : goal.negate-requires
 negate-requires c = record {
   long = c.requires.places ∙ sym c.requires.penalized.long;
-  small = charged-small (held c.args.book.now) c.requires.sound c.args.charged.now c.requires.penalized;
+  small = charged_small (held c.args.book.now) c.requires.sound c.args.charged.now c.requires.penalized;
 }
 
 pub add-listed-requires : goal.add-listed-requires
@@ -20,7 +20,7 @@ add-listed-requires c =
       few = omega (arith, n, c.requires.penalized.long, c.requires.sound.few);
       small = λ k h.
           let l : k < length c.args.charged.now = omega (arith, h, n) in
-          rw (c.negate.ensures k l) (neg-le (get_or c.args.charged.now k (pos 0)) 100000000000000000 (omega (arith, charged-small (held c.args.book.now) c.requires.sound c.args.charged.now c.requires.penalized k l)));
+          rw (c.negate.ensures k l) (neg_le (get_or c.args.charged.now k (pos 0)) 100000000000000000 (omega (arith, charged_small (held c.args.book.now) c.requires.sound c.args.charged.now c.requires.penalized k l)));
       room = c.requires.room;
     }
 
@@ -35,6 +35,6 @@ returns c =
     c.negate.ensures (a - 1) k ∙ ap neg_ℤ (c.requires.penalized.each (a - 1) k ∙ ap (penalties r) e) in
     row_as c.args.table.now c.add-listed.new.table c.args.code _ _
     (λ q. (λ i. cond (leb 1 q && leb q (n i)) (get_or cs (q - 1) (pos 0)) (pos 0))
-    ∙ sym (accounts-have r.heading.accounts (λ a. get_or cs (a - 1) (pos 0)) q)
-    ∙ accounts-same r.heading.accounts (λ a. get_or cs (a - 1) (pos 0)) (λ a. neg_ℤ (penalties r a)) at q)
+    ∙ sym (accounts_have r.heading.accounts (λ a. get_or cs (a - 1) (pos 0)) q)
+    ∙ accounts_same r.heading.accounts (λ a. get_or cs (a - 1) (pos 0)) (λ a. neg_ℤ (penalties r a)) at q)
     c.add-listed.ensures

@@ -1,25 +1,25 @@
 use Rattle.std.proofs.Common.{◌≡◌, sym, ap, ◌∙◌, ⊎_elim}
 use Rattle.book.specs.Books.{held}
-use Rattle.settlement.specs.Sheets.{amount-of, own, to-nobody}
-use Rattle.settlement.proofs.PartyRows.{nobody-has}
-use Rattle.settlement.proofs.Rows.{row_as, row-none}
+use Rattle.settlement.specs.Sheets.{amount_of, own, to_nobody}
+use Rattle.settlement.proofs.PartyRows.{nobody_has}
+use Rattle.settlement.proofs.Rows.{row_as, row_none}
 use Rattle.settlement.proofs.own.add_own.Goals as goal
 
 pub returns-in-F2 : goal.returns-in-F2
 returns-in-F2 c =
     let r = held c.args.book.now in
-    row_as c.args.table.now c.add-imbalance.new.table c.args.code _ _ (λ q. ap (λ k. amount-of r.heading.accounts (own r c.args.hour k) q) (sym c.in-F2.is)) c.add-imbalance.ensures
+    row_as c.args.table.now c.add-imbalance.new.table c.args.code _ _ (λ q. ap (λ k. amount_of r.heading.accounts (own r c.args.hour k) q) (sym c.in-F2.is)) c.add-imbalance.ensures
 
 pub returns-in-A2 : goal.returns-in-A2
 returns-in-A2 c =
     let r = held c.args.book.now in
     let o = own r c.args.hour in
-    let e : o c.args.code ≡ to-nobody = ⊎_elim (λ e. ap o e) (⊎_elim (λ e. ap o e) (⊎_elim (λ e. ap o e) (λ e. ap o e))) c.in-A2.is in
-    row-none c.args.table.now c.args.code _ (λ q. ap (λ k. amount-of r.heading.accounts k q) e ∙ nobody-has r.heading.accounts q)
+    let e : o c.args.code ≡ to_nobody = ⊎_elim (λ e. ap o e) (⊎_elim (λ e. ap o e) (⊎_elim (λ e. ap o e) (λ e. ap o e))) c.in-A2.is in
+    row_none c.args.table.now c.args.code _ (λ q. ap (λ k. amount_of r.heading.accounts k q) e ∙ nobody_has r.heading.accounts q)
 
 pub returns-in-F1 : goal.returns-in-F1
 returns-in-F1 c =
     let r = held c.args.book.now in
     let o = own r c.args.hour in
-    let e : o c.args.code ≡ to-nobody = ⊎_elim (λ e. ap o e) (⊎_elim (λ e. ap o e) (⊎_elim (λ e. ap o e) (⊎_elim (λ e. ap o e) (λ e. ap o e)))) c.in-F1.is in
-    row-none c.args.table.now c.args.code _ (λ q. ap (λ k. amount-of r.heading.accounts k q) e ∙ nobody-has r.heading.accounts q)
+    let e : o c.args.code ≡ to_nobody = ⊎_elim (λ e. ap o e) (⊎_elim (λ e. ap o e) (⊎_elim (λ e. ap o e) (⊎_elim (λ e. ap o e) (λ e. ap o e)))) c.in-F1.is in
+    row_none c.args.table.now c.args.code _ (λ q. ap (λ k. amount_of r.heading.accounts k q) e ∙ nobody_has r.heading.accounts q)

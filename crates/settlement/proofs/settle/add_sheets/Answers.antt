@@ -1,15 +1,15 @@
 use Rattle.std.proofs.Common.{◌≡◌, ℕ, ◌+◌, ◌<◌, ◌≤◌, false, ◌+ℤ◌, nat_abs, sym, ap, ◌∙◌, subst, arith}
 use Rattle.std.specs.List.{range_with_len}
 use Rattle.book.specs.Books.{held}
-use Rattle.codes.proofs.Puts.{empty-cell}
+use Rattle.codes.proofs.Puts.{empty_cell}
 use Rattle.amounts.specs.Amounts.{lacking}
 use Rattle.settlement.specs.Days.{Holds, sheets}
 use Rattle.settlement.specs.Sheets.{sheet}
-use Rattle.settlement.proofs.Small.{none_then, sheets-le, sheets-more}
+use Rattle.settlement.proofs.Small.{none_then, sheets_le, sheets_more}
 use Rattle.settlement.proofs.settle.add_sheets.Goals as goal
 
 pub loop-h-init : goal.loop-h-init
-loop-h-init g c = λ code q. empty-cell c.args.table.now c.requires.empty code q
+loop-h-init g c = λ code q. empty_cell c.args.table.now c.requires.empty code q
 
 pub put-weights-requires : goal.put-weights-requires
 put-weights-requires g c = record { sound = c.requires.sound; places = c.loop-h.auto.purchases ∙ c.requires.weights }
@@ -26,7 +26,7 @@ add-sheet-requires g c =
       weighed = c.put-weights.ensures;
       borne = none (h + 1) (omega arith) (omega arith);
       places = c.loop-h.auto.shares ∙ c.requires.places;
-      room = λ code q. rw (c.loop-h.invariant code q) (omega (arith, sheets-le f (g.met.R.Sharing.fair c.args.rule.now) r c.requires.sound h (λ k l m. none k l (omega arith)) code q));
+      room = λ code q. rw (c.loop-h.invariant code q) (omega (arith, sheets_le f (g.met.R.Sharing.fair c.args.rule.now) r c.requires.sound h (λ k l m. none k l (omega arith)) code q));
     }
 
 pub loop-h-preserved : goal.loop-h-preserved
@@ -34,7 +34,7 @@ loop-h-preserved g c = λ code q.
     let r = held c.args.book.now in
     let h = c.loop-h.h in
     let f = g.R.Sharing.parts c.args.rule.now in
-    c.add-sheet.ensures code q ∙ ap (λ z. z +ℤ sheet f r (h + 1) code q) (c.loop-h.invariant code q) ∙ sym (sheets-more (λ scope. sheet f r scope code q) h)
+    c.add-sheet.ensures code q ∙ ap (λ z. z +ℤ sheet f r (h + 1) code q) (c.loop-h.invariant code q) ∙ sym (sheets_more (λ scope. sheet f r scope code q) h)
 
 pub returns : goal.returns
 returns g c =

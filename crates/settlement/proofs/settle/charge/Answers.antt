@@ -5,7 +5,7 @@ use Rattle.dayfile.specs.declared.record.Reserve.{Reserve}
 use Rattle.book.specs.Books.{held}
 use Rattle.codes.specs.Sums.{sum_over}
 use Rattle.valuation.specs.Valid.{Listed, ValidReserve}
-use Rattle.items.specs.Items.{penalty-among}
+use Rattle.items.specs.Items.{penalty_among}
 use Rattle.bounds.proofs.Facts.{all_map}
 use Rattle.settlement.proofs.settle.charge.Goals as goal
 
@@ -15,16 +15,16 @@ put-penalties-requires c =
     let r = held c.args.book.now in
     let e = sym c.as-slice.ensures.value in
     record {
-      few = subst (λ (xs : List Reserve). length xs ≤ 400) e s.few-reserves;
-      failed = subst (λ (xs : List Failure). length xs ≤ 320) (sym c.as-slice-2.ensures.value) s.few-failures;
+      few = subst (λ (xs : List Reserve). length xs ≤ 400) e s.few_reserves;
+      failed = subst (λ (xs : List Failure). length xs ≤ 320) (sym c.as-slice-2.ensures.value) s.few_failures;
       valid = subst (λ (xs : List Reserve). All ValidReserve xs) e s.reserves;
       listed = subst (λ (xs : List Reserve). All (λ x. (1 ≤ x.account) × (x.account ≤ length c.args.sums.now)) xs) e
-          (all_map (λ x. Listed r x.account) _ (λ x p. (p.0, omega (arith, p.1, c.requires.sums))) r.reserves s.reserve-accounts);
+          (all_map (λ x. Listed r x.account) _ (λ x p. (p.0, omega (arith, p.1, c.requires.sums))) r.reserves s.reserve_accounts);
       long = c.requires.sums ∙ sym c.requires.places;
     }
 
 pub returns : goal.returns
 returns c = record {
   long = c.put-penalties.auto.penalties ∙ c.requires.places;
-  each = λ k h. c.put-penalties.ensures k h ∙ (λ i. sum_over (penalty-among (c.as-slice.ensures.value i) (k + 1)) (c.as-slice-2.ensures.value i));
+  each = λ k h. c.put-penalties.ensures k h ∙ (λ i. sum_over (penalty_among (c.as-slice.ensures.value i) (k + 1)) (c.as-slice-2.ensures.value i));
 }

@@ -2,7 +2,7 @@ use Rattle.std.proofs.Common.{◌≡◌, ℕ, ◌+◌, ◌<◌, ◌≤◌, true,
 use Rattle.std.proofs.lemmas.Bool.{cases_eq}
 use Rattle.book.specs.Books.{held}
 use Rattle.amounts.specs.Amounts.{lacking}
-use Rattle.settlement.proofs.Small.{first_counted, none-counted}
+use Rattle.settlement.proofs.Small.{first_counted, none_counted}
 use Rattle.settlement.proofs.settle.first_lacking.Goals as goal
 
 pub loop-h-init : goal.loop-h-init
@@ -31,4 +31,4 @@ loop-h-preserved c = λ k l h.
 pub returns : goal.returns
 returns c =
     let r = held c.args.book.now in
-    sym (none-counted (lacking r) 1 r.heading.hours (λ k l h. c.loop-h.invariant k l (omega arith)))
+    sym (none_counted (lacking r) 1 r.heading.hours (λ k l h. c.loop-h.invariant k l (omega arith)))

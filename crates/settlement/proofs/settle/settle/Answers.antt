@@ -1,6 +1,6 @@
 use Rattle.book.specs.Books.{held}
-use Rattle.bounds.proofs.Facts.{sound-facts}
+use Rattle.bounds.proofs.Facts.{sound_facts}
 use Rattle.settlement.proofs.settle.settle.Goals as goal
 
 pub settle-priced-requires : goal.settle-priced-requires
-settle-priced-requires g c = sound-facts (held c.args.book.now) c.requires
+settle-priced-requires g c = sound_facts (held c.args.book.now) c.requires

@@ -1,8 +1,8 @@
 use Rattle.std.proofs.Common.{◌≡◌, ℕ, ◌+◌, ◌<◌, ◌≤◌, false, ◌+ℤ◌, nat_abs, Some, None, Option, sym, refl, ap, ◌∙◌, subst, arith}
 use Rattle.book.specs.Books.{held}
-use Rattle.amounts.specs.Amounts.{first-lacking, lacking}
-use Rattle.settlement.specs.Days.{Filled, day-cell, item, lacking-fault, outcome}
-use Rattle.settlement.proofs.Small.{none_then, sheets-le}
+use Rattle.amounts.specs.Amounts.{first_lacking, lacking}
+use Rattle.settlement.specs.Days.{Filled, day_cell, item, lacking_fault, outcome}
+use Rattle.settlement.proofs.Small.{none_then, sheets_le}
 use Rattle.settlement.proofs.settle.settle_with.Goals as goal
 
 pub add-sheets-requires : goal.add-sheets-requires
@@ -10,7 +10,7 @@ add-sheets-requires g c = record {
   sound = c.requires.sound;
   priced = c.requires.priced;
   borne = sym c.in-None.ensures;
-  weights = c.first-lacking.auto.purchases ∙ c.requires.weights;
+  weights = c.first_lacking.auto.purchases ∙ c.requires.weights;
   places = c.requires.places;
   empty = c.clear.ensures;
 }
@@ -26,16 +26,16 @@ add-items-requires g c =
       sound = c.requires.sound;
       penalized = c.charge.ensures;
       places = c.charge.auto.sums ∙ c.add-sheets.auto.shares ∙ c.requires.places;
-      room = λ code q. rw (c.add-sheets.ensures code q) (omega (arith, sheets-le (g.R.Sharing.parts c.args.rule.now) (g.met.R.Sharing.fair c.args.rule.now) r c.requires.sound r.heading.hours none code q));
+      room = λ code q. rw (c.add-sheets.ensures code q) (omega (arith, sheets_le (g.R.Sharing.parts c.args.rule.now) (g.met.R.Sharing.fair c.args.rule.now) r c.requires.sound r.heading.hours none code q));
     }
 
 pub returns-in-None : goal.returns-in-None
 returns-in-None g c =
     let r = held c.args.book.now in
     let f = g.R.Sharing.parts c.args.rule.now in
-    let e : first-lacking r ≡ None = sym c.in-None.ensures in
+    let e : first_lacking r ≡ None = sym c.in-None.ensures in
     record {
-      value = sym (ap (λ o. outcome (lacking-fault o)) e);
-      after = subst (λ (o : Option ℕ). Filled (lacking-fault o) c.args.table.now c.add-items.new.table (day-cell f r)) (sym e)
+      value = sym (ap (λ o. outcome (lacking_fault o)) e);
+      after = subst (λ (o : Option ℕ). Filled (lacking_fault o) c.args.table.now c.add-items.new.table (day_cell f r)) (sym e)
           (λ code q. c.add-items.ensures f code q ∙ ap (λ z. z +ℤ item f r code q) (c.add-sheets.ensures code q));
     }

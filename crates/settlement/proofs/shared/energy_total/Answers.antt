@@ -4,9 +4,9 @@ use Rattle.std.proofs.lemmas.Int.{to_z-of_z}
 use Rattle.dayfile.specs.declared.record.Position.{Position}
 use Rattle.book.specs.Books.{held}
 use Rattle.codes.specs.Sums.{sum_over}
-use Rattle.valuation.specs.Terms.{position-term}
+use Rattle.valuation.specs.Terms.{position_term}
 use Rattle.valuation.specs.Valid.{ValidPosition, ValidPrice}
-use Rattle.bounds.proofs.Bounds.{all-energy, all-energy-le, size_small}
+use Rattle.bounds.proofs.Bounds.{all_energy, all_energy_le, size_small}
 use Rattle.bounds.proofs.Facts.{all_map}
 use Rattle.settlement.proofs.shared.energy_total.Goals as goal
 
@@ -16,7 +16,7 @@ sum-of-requires c =
     let r = held c.args.book.now in
     let e = sym c.as-slice.ensures.value in
     record {
-      few = subst (λ (xs : List Position). length xs ≤ 1000) e s.few-positions;
+      few = subst (λ (xs : List Position). length xs ≤ 1000) e s.few_positions;
       valid = subst (λ (xs : List Position). All (λ x. All ValidPrice c.args.prices.now.prices.now × ValidPosition x) xs) e
           (all_map ValidPosition _ (λ x v. (subst (All ValidPrice) (sym c.requires.priced) s.prices, v)) r.positions s.positions);
     }
@@ -28,5 +28,5 @@ returns c =
     let h = c.args.hour in
     let m = c.args.market in
     let e = to_z-of_z w64 c.sum-of.result (record { sfits = c.sum-of.type-inv }) ∙ c.sum-of.ensures
-    ∙ (λ i. sum_over (λ x. cond (eqb x.hour h) (position-term (c.requires.priced i) m x) (pos 0)) (c.as-slice.ensures.value i)) ∙ sym (all-energy r s m h) in
-    record { value = e; bound = rw e (omega (arith, all-energy-le r s m h, size_small r s h)) }
+    ∙ (λ i. sum_over (λ x. cond (eqb x.hour h) (position_term (c.requires.priced i) m x) (pos 0)) (c.as-slice.ensures.value i)) ∙ sym (all_energy r s m h) in
+    record { value = e; bound = rw e (omega (arith, all_energy_le r s m h, size_small r s h)) }

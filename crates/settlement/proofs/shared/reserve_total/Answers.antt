@@ -4,9 +4,9 @@ use Rattle.std.proofs.lemmas.Int.{to_z-of_z}
 use Rattle.dayfile.specs.declared.record.Reserve.{Reserve}
 use Rattle.book.specs.Books.{held}
 use Rattle.codes.specs.Sums.{sum_over}
-use Rattle.valuation.specs.Terms.{reserve-term}
+use Rattle.valuation.specs.Terms.{reserve_term}
 use Rattle.valuation.specs.Valid.{ValidReserve}
-use Rattle.bounds.proofs.Bounds.{all-reserve, all-reserve-le, size_small}
+use Rattle.bounds.proofs.Bounds.{all_reserve, all_reserve_le, size_small}
 use Rattle.bounds.proofs.Facts.{all_map}
 use Rattle.settlement.proofs.shared.reserve_total.Goals as goal
 
@@ -16,7 +16,7 @@ sum-of-requires c =
     let r = held c.args.book.now in
     let e = sym c.as-slice.ensures.value in
     record {
-      few = subst (λ (xs : List Reserve). length xs ≤ 1000) e (omega (arith, s.few-reserves));
+      few = subst (λ (xs : List Reserve). length xs ≤ 1000) e (omega (arith, s.few_reserves));
       valid = subst (λ (xs : List Reserve). All ValidReserve xs) e s.reserves;
     }
 
@@ -27,5 +27,5 @@ returns c =
     let h = c.args.hour in
     let m = c.args.market in
     let e = to_z-of_z w64 c.sum-of.result (record { sfits = c.sum-of.type-inv }) ∙ c.sum-of.ensures
-    ∙ (λ i. sum_over (λ x. cond (eqb x.hour h) (reserve-term m x) (pos 0)) (c.as-slice.ensures.value i)) ∙ sym (all-reserve r s m h) in
-    record { value = e; bound = rw e (omega (arith, all-reserve-le r s m h, size_small r s h)) }
+    ∙ (λ i. sum_over (λ x. cond (eqb x.hour h) (reserve_term m x) (pos 0)) (c.as-slice.ensures.value i)) ∙ sym (all_reserve r s m h) in
+    record { value = e; bound = rw e (omega (arith, all_reserve_le r s m h, size_small r s h)) }

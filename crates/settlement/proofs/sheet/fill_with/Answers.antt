@@ -1,9 +1,9 @@
 use Rattle.std.proofs.Common.{◌≡◌, Bool, false, cond, Some, None, sym, refl, ap, ◌∙◌, subst}
 use Rattle.book.specs.Books.{held}
 use Rattle.amounts.specs.Amounts.{lacking}
-use Rattle.settlement.specs.Days.{Filled, no-purchases, outcome}
+use Rattle.settlement.specs.Days.{Filled, no_purchases, outcome}
 use Rattle.settlement.specs.Sheets.{sheet}
-use Rattle.settlement.proofs.Rows.{empty-room, from_empty}
+use Rattle.settlement.proofs.Rows.{empty_room, from_empty}
 use Rattle.settlement.proofs.sheet.fill_with.Goals as goal
 
 pub add-sheet-requires : goal.add-sheet-requires
@@ -13,7 +13,7 @@ add-sheet-requires g c = record {
   weighed = c.put-weights.ensures;
   borne = sym c.is-lacking.ensures ∙ c.if-is-lacking.false;
   places = c.requires.places;
-  room = empty-room c.clear.new.self c.clear.ensures;
+  room = empty_room c.clear.new.self c.clear.ensures;
 }
 
 pub returns : goal.returns
@@ -22,7 +22,7 @@ returns g c =
     let h = c.args.hour in
     let e : lacking r h ≡ false = sym c.is-lacking.ensures ∙ c.if-is-lacking.false in
     record {
-      value = sym (ap (λ b. outcome (cond b (Some (no-purchases h)) None)) e);
-      after = subst (λ (b : Bool). Filled (cond b (Some (no-purchases h)) None) c.args.table.now c.add-sheet.new.table (sheet (g.R.Sharing.parts c.args.rule.now) r h)) (sym e)
+      value = sym (ap (λ b. outcome (cond b (Some (no_purchases h)) None)) e);
+      after = subst (λ (b : Bool). Filled (cond b (Some (no_purchases h)) None) c.args.table.now c.add-sheet.new.table (sheet (g.R.Sharing.parts c.args.rule.now) r h)) (sym e)
           (from_empty c.clear.new.self c.add-sheet.new.table (sheet (g.R.Sharing.parts c.args.rule.now) r h) c.clear.ensures c.add-sheet.ensures);
     }

@@ -3,7 +3,7 @@ use Rattle.std.specs.List.{AllByRecursion as All}
 use Rattle.dayfile.specs.declared.record.Position.{Position}
 use Rattle.book.specs.Books.{held}
 use Rattle.valuation.specs.Valid.{Listed, ValidPosition}
-use Rattle.amounts.specs.Buying.{bought-sums}
+use Rattle.amounts.specs.Buying.{bought_sums}
 use Rattle.bounds.proofs.Facts.{all_map}
 use Rattle.settlement.proofs.sheet.put_weights.Goals as goal
 
@@ -13,11 +13,11 @@ put-purchases-requires c =
     let r = held c.args.book.now in
     let e = sym c.as-slice.ensures.value in
     record {
-      few = subst (λ (xs : List Position). length xs ≤ 1000) e s.few-positions;
+      few = subst (λ (xs : List Position). length xs ≤ 1000) e s.few_positions;
       valid = subst (λ (xs : List Position). All ValidPosition xs) e s.positions;
       listed = subst (λ (xs : List Position). All (λ x. (1 ≤ x.account) × (x.account ≤ length c.args.purchases.now)) xs) e
-          (all_map (λ x. Listed r x.account) _ (λ x p. (p.0, omega (arith, p.1, c.requires.places))) r.positions s.position-accounts);
+          (all_map (λ x. Listed r x.account) _ (λ x p. (p.0, omega (arith, p.1, c.requires.places))) r.positions s.position_accounts);
     }
 
 pub returns : goal.returns
-returns c = c.put-purchases.ensures ∙ (λ i. bought-sums c.args.hour (c.requires.places i) (c.as-slice.ensures.value i))
+returns c = c.put-purchases.ensures ∙ (λ i. bought_sums c.args.hour (c.requires.places i) (c.as-slice.ensures.value i))

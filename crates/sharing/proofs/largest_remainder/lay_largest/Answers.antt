@@ -1,6 +1,6 @@
 use Rattle.std.proofs.Common.{◌<◌, length, sum, sym, ap, ◌∙◌, arith}
 use Rattle.std.proofs.lemmas.List.Sums.{get_or-le-sum_by}
-use Rattle.sharing.specs.LargestFair.{floors-le, floors-long, remainders-long}
+use Rattle.sharing.specs.LargestFair.{floors_le, floors_long, remainders_long}
 use Rattle.sharing.proofs.largest_remainder.lay_largest.Goals as goal
 
 -- a floor is at most the sum of all floors, which is at most the amount
@@ -11,6 +11,6 @@ give-missing-requires c =
     let laid = c.lay-floors-lacking.ensures in
     let some : 0 < sum ws = omega (arith, c.requires.total, c.args.rate.now.some) in
     record {
-      places = ap length laid.floors ∙ floors-long a ws ∙ sym (remainders-long a ws) ∙ sym (ap length laid.rests);
-      small = λ k h. omega (arith, get_or-le-sum_by (λ x. x) c.lay-floors-lacking.new.shares k 0 h, ap sum laid.floors, floors-le a ws some, c.args.rate.now.small);
+      places = ap length laid.floors ∙ floors_long a ws ∙ sym (remainders_long a ws) ∙ sym (ap length laid.rests);
+      small = λ k h. omega (arith, get_or-le-sum_by (λ x. x) c.lay-floors-lacking.new.shares k 0 h, ap sum laid.floors, floors_le a ws some, c.args.rate.now.small);
     }

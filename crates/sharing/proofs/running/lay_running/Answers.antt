@@ -19,8 +19,8 @@ portion-after-requires c =
     omega (arith, c.requires.total, c.loop-i.invariant.0, more, sum_by-take-le (λ x. x) ws (c.loop-i.i + 1))
 
 -- what a turn computes is due after its place
-now-due : (c : goal.After-portion-after) → c.portion-after.result.quotient ≡ due c.args.rate.now.amount c.args.weights.now (c.loop-i.i + 1)
-now-due c =
+now_due : (c : goal.After-portion-after) → c.portion-after.result.quotient ≡ due c.args.rate.now.amount c.args.weights.now (c.loop-i.i + 1)
+now_due c =
     let a = c.args.rate.now.amount in
     let ws = c.args.weights.now in
     let i = c.loop-i.i in
@@ -30,7 +30,7 @@ now-due c =
 pub overflow-sub-shares : goal.overflow-sub-shares
 overflow-sub-shares c =
     let some : 0 < sum c.args.weights.now = omega (arith, c.requires.total, c.args.rate.now.some) in
-    omega (arith, now-due c, c.loop-i.invariant.1, rising c.args.rate.now.amount c.args.weights.now c.loop-i.i some c.loop-i-test.true)
+    omega (arith, now_due c, c.loop-i.invariant.1, rising c.args.rate.now.amount c.args.weights.now c.loop-i.i some c.loop-i-test.true)
 
 pub loop-i-preserved : goal.loop-i-preserved
 loop-i-preserved c =
@@ -38,9 +38,9 @@ loop-i-preserved c =
     let ws = c.args.weights.now in
     let i = c.loop-i.i in
     let lt : i < length c.loop-i.shares = omega (arith, c.requires.places) in
-    let here : c.portion-after.result.quotient - c.loop-i.before ≡ part a ws i = omega (arith, now-due c, c.loop-i.invariant.1) in (
+    let here : c.portion-after.result.quotient - c.loop-i.before ≡ part a ws i = omega (arith, now_due c, c.loop-i.invariant.1) in (
       omega (arith, sum_by_more (λ x. x) ws i 0 c.loop-i-test.true, c.loop-i.invariant.0),
-      now-due c,
+      now_due c,
       rw here (fill_by_more (part a ws) c.loop-i.shares i 0 lt c.loop-i.invariant.2),
     )
 

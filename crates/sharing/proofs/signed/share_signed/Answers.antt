@@ -1,8 +1,8 @@
 use Rattle.std.proofs.Common.{◌≡◌, nat_abs}
 use Rattle.std.proofs.lemmas.Int.{to_z-of_z}
-use Rattle.sharing.specs.Shareable.{share-answer}
-use Rattle.sharing.specs.Signed.{signed-leaves}
-use Rattle.sharing.proofs.SignedSums.{signed-made}
+use Rattle.sharing.specs.Shareable.{share_answer}
+use Rattle.sharing.specs.Signed.{signed_leaves}
+use Rattle.sharing.proofs.SignedSums.{signed_made}
 use Rattle.sharing.proofs.signed.share_signed.Goals as goal
 
 pub returns : goal.returns
@@ -19,5 +19,5 @@ returns g c =
     record {
       answer = answer;
       after = left;
-      whole = signed-made (g.R.Sharing.parts rule) z ws before (g.met.R.Sharing.fair rule) r after answer left;
+      whole = signed_made (g.R.Sharing.parts rule) z ws before (g.met.R.Sharing.fair rule) r after answer left;
     }

@@ -1,14 +1,14 @@
 use Rattle.std.proofs.Common.{length, ap, subst, arith}
 use Rattle.text.specs.Written.{Wrote}
-use Rattle.statement.proofs.Stated.{first-from}
+use Rattle.statement.proofs.Stated.{first_from}
 use Rattle.statement.proofs.issued.put_first_line.Goals as goal
 
 pub put-line-requires : goal.put-line-requires
 put-line-requires c =
-    omega (arith, ap length (first-from c.args.heading.now c.args.issue c.day-name-name.result c.from.result c.from-2.result c.day-name-name.ensures c.from.ensures c.from-2.ensures))
+    omega (arith, ap length (first_from c.args.heading.now c.args.issue c.day-name-name.result c.from.result c.from-2.result c.day-name-name.ensures c.from.ensures c.from-2.ensures))
 
 pub returns : goal.returns
 returns c =
     subst (λ z. Wrote c.args.buffer.now 0 z c.put-line.new.buffer c.put-line.result)
-    (first-from c.args.heading.now c.args.issue c.day-name-name.result c.from.result c.from-2.result c.day-name-name.ensures c.from.ensures c.from-2.ensures)
+    (first_from c.args.heading.now c.args.issue c.day-name-name.result c.from.result c.from-2.result c.day-name-name.ensures c.from.ensures c.from-2.ensures)
     c.put-line.ensures

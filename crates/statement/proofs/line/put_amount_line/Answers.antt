@@ -4,38 +4,38 @@ use Rattle.codes.specs.declared.code.CodeRow.{CodeRow}
 use Rattle.text.specs.Lines.{word}
 use Rattle.text.specs.Written.{Wrote}
 use Rattle.text.proofs.Writing.{after}
-use Rattle.statement.specs.Lines.{amount-line}
-use Rattle.statement.specs.Sides.{side-and-magnitude, side-letter}
+use Rattle.statement.specs.Lines.{amount_line}
+use Rattle.statement.specs.Sides.{side_and_magnitude, side_letter}
 use Rattle.statement.specs.declared.side.Side.{Side}
-use Rattle.statement.proofs.Lengths.{length-amount-line}
+use Rattle.statement.proofs.Lengths.{length_amount_line}
 use Rattle.statement.proofs.line.put_amount_line.Goals as goal
 
 pub put-bytes-named-requires : goal.put-bytes-named-requires
-put-bytes-named-requires c = omega (arith, length-amount-line c.args.code c.args.party c.args.amount)
+put-bytes-named-requires c = omega (arith, length_amount_line c.args.code c.args.party c.args.amount)
 
 pub put-word-numbered-requires : goal.put-word-numbered-requires
 put-word-numbered-requires c =
-    omega (arith, length-amount-line c.args.code c.args.party c.args.amount, ap (λ k. length (decimal k)) c.from.ensures, c.put-bytes-named.ensures.next, c.put-bytes-named.auto.buffer)
+    omega (arith, length_amount_line c.args.code c.args.party c.args.amount, ap (λ k. length (decimal k)) c.from.ensures, c.put-bytes-named.ensures.next, c.put-bytes-named.auto.buffer)
 
 pub put-bytes-sided-requires : goal.put-bytes-sided-requires
 put-bytes-sided-requires c =
-    omega (arith, length-amount-line c.args.code c.args.party c.args.amount, ap (λ k. length (decimal k)) c.from.ensures, c.put-bytes-named.ensures.next, c.put-bytes-named.auto.buffer, c.put-word-numbered.ensures.next, c.put-word-numbered.auto.buffer)
+    omega (arith, length_amount_line c.args.code c.args.party c.args.amount, ap (λ k. length (decimal k)) c.from.ensures, c.put-bytes-named.ensures.next, c.put-bytes-named.auto.buffer, c.put-word-numbered.ensures.next, c.put-word-numbered.auto.buffer)
 
 pub put-word-measured-requires : goal.put-word-measured-requires
 put-word-measured-requires c =
-    let s = c.side-and-magnitude-side.ensures ∙ ap side-and-magnitude (to_z-of_z w64 c.args.amount c.ranges.amount) in
-    omega (arith, length-amount-line c.args.code c.args.party c.args.amount, ap (λ k. length (decimal k)) c.from.ensures, ap (λ (a : Side × ℕ). length (decimal a.1)) s, c.put-bytes-named.ensures.next, c.put-bytes-named.auto.buffer, c.put-word-numbered.ensures.next, c.put-word-numbered.auto.buffer, c.put-bytes-sided.ensures.next, c.put-bytes-sided.auto.buffer)
+    let s = c.side-and-magnitude-side.ensures ∙ ap side_and_magnitude (to_z-of_z w64 c.args.amount c.ranges.amount) in
+    omega (arith, length_amount_line c.args.code c.args.party c.args.amount, ap (λ k. length (decimal k)) c.from.ensures, ap (λ (a : Side × ℕ). length (decimal a.1)) s, c.put-bytes-named.ensures.next, c.put-bytes-named.auto.buffer, c.put-word-numbered.ensures.next, c.put-word-numbered.auto.buffer, c.put-bytes-sided.ensures.next, c.put-bytes-sided.auto.buffer)
 
 pub put-bytes-requires : goal.put-bytes-requires
 put-bytes-requires c =
-    let s = c.side-and-magnitude-side.ensures ∙ ap side-and-magnitude (to_z-of_z w64 c.args.amount c.ranges.amount) in
-    omega (arith, length-amount-line c.args.code c.args.party c.args.amount, ap (λ k. length (decimal k)) c.from.ensures, ap (λ (a : Side × ℕ). length (decimal a.1)) s, c.put-bytes-named.ensures.next, c.put-bytes-named.auto.buffer, c.put-word-numbered.ensures.next, c.put-word-numbered.auto.buffer, c.put-bytes-sided.ensures.next, c.put-bytes-sided.auto.buffer, c.put-word-measured.ensures.next, c.put-word-measured.auto.buffer)
+    let s = c.side-and-magnitude-side.ensures ∙ ap side_and_magnitude (to_z-of_z w64 c.args.amount c.ranges.amount) in
+    omega (arith, length_amount_line c.args.code c.args.party c.args.amount, ap (λ k. length (decimal k)) c.from.ensures, ap (λ (a : Side × ℕ). length (decimal a.1)) s, c.put-bytes-named.ensures.next, c.put-bytes-named.auto.buffer, c.put-word-numbered.ensures.next, c.put-word-numbered.auto.buffer, c.put-bytes-sided.ensures.next, c.put-bytes-sided.auto.buffer, c.put-word-measured.ensures.next, c.put-word-measured.auto.buffer)
 
 pub returns : goal.returns
-unfolding amount-line
+unfolding amount_line
 returns c =
-    let s = c.side-and-magnitude-side.ensures ∙ ap side-and-magnitude (to_z-of_z w64 c.args.amount c.ranges.amount) in
-    let l = c.letter.ensures ∙ ap (λ (a : Side × ℕ). side-letter a.0) s in
+    let s = c.side-and-magnitude-side.ensures ∙ ap side_and_magnitude (to_z-of_z w64 c.args.amount c.ranges.amount) in
+    let l = c.letter.ensures ∙ ap (λ (a : Side × ℕ). side_letter a.0) s in
     let row : CodeRow = c.row-row.result in
     let party : ℕ = c.from.result in
     let magnitude : ℕ = c.side-and-magnitude-side.result.1 in

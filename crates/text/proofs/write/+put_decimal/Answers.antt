@@ -1,16 +1,16 @@
 use Rattle.std.proofs.Common.{◌+◌, ◌/◌, ◌%◌, [], ◌∷◌, length, decimal, ap, arith}
 use Rattle.std.proofs.lemmas.Fmt.{decimal_digit, decimal_step}
-use Rattle.text.proofs.Writing.{after, length-decimal-step}
+use Rattle.text.proofs.Writing.{after, length_decimal_step}
 use Rattle.text.proofs.write.+put_decimal.Goals as goal
 
 pub put-decimal-end-requires : goal.put-decimal-end-requires
 put-decimal-end-requires t c =
-    let step = length-decimal-step c.args.n (omega arith) (omega arith) in
+    let step = length_decimal_step c.args.n (omega arith) (omega arith) in
     (omega arith, omega arith)
 
 pub put-bytes-requires : goal.put-bytes-requires
 put-bytes-requires t c =
-    let step = length-decimal-step c.args.n (omega arith) (omega arith) in
+    let step = length_decimal_step c.args.n (omega arith) (omega arith) in
     omega (arith, c.put-decimal-end.ensures.next)
 
 pub put-bytes-requires-else-n-ge10 : goal.put-bytes-requires-else-n-ge10

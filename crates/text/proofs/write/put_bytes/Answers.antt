@@ -1,10 +1,10 @@
 use Rattle.std.proofs.Common.{refl, arith}
-use Rattle.text.proofs.Writing.{written-mid}
+use Rattle.text.proofs.Writing.{written_mid}
 use Rattle.text.proofs.write.put_bytes.Goals as goal
 
 pub returns : goal.returns
 returns c = record {
-  is = written-mid c.args.buffer.now c.args.at _ c.args.bytes.now c.copy-from-slice.new.self c.copy-from-slice.ensures.after (omega arith);
+  is = written_mid c.args.buffer.now c.args.at _ c.args.bytes.now c.copy-from-slice.new.self c.copy-from-slice.ensures.after (omega arith);
   next = refl;
   room = c.requires;
 }

@@ -2,7 +2,7 @@ use Rattle.std.proofs.Common.{◌+◌, get_or, take, subst, arith}
 use Rattle.std.proofs.lemmas.List.{take_all}
 use Rattle.text.specs.Lines.{word, words}
 use Rattle.text.specs.Written.{Wrote}
-use Rattle.text.proofs.Writing.{after, length-pieces-more, none, pieces-front, pieces_more}
+use Rattle.text.proofs.Writing.{after, length_pieces_more, none, pieces_front, pieces_more}
 use Rattle.text.proofs.write.put_words.Goals as goal
 
 pub loop-n-init : goal.loop-n-init
@@ -12,7 +12,7 @@ pub put-word-end-requires : goal.put-word-end-requires
 put-word-end-requires c =
     let ns = c.args.numbers.now in
     let i = c.loop-n.n-index in
-    omega (arith, c.loop-n.invariant.next, length-pieces-more word ns 0 i c.loop-n-test.true, pieces-front word (i + 1) ns)
+    omega (arith, c.loop-n.invariant.next, length_pieces_more word ns 0 i c.loop-n-test.true, pieces_front word (i + 1) ns)
 
 pub loop-n-preserved : goal.loop-n-preserved
 loop-n-preserved c =

@@ -1,6 +1,6 @@
 use Rattle.std.proofs.Common.{◌≡◌, ◌*◌, ◌≤◌, ◌*ℤ◌, nat_abs, ap, ◌∙◌, arith, w64, SFits, to_z, of_z}
 use Rattle.std.proofs.lemmas.Int.{to_z-of_z}
-use Rattle.valuation.proofs.Products.{product_le, fits-w64}
+use Rattle.valuation.proofs.Products.{product_le, fits_w64}
 use Rattle.valuation.proofs.terms.product.Goals as goal
 
 small : (c : goal.Start) → nat_abs (c.args.price *ℤ c.args.kwh) ≤ 10000000 * nat_abs c.args.kwh
@@ -10,11 +10,11 @@ pub overflow-mul-result : goal.overflow-mul-result
 overflow-mul-result c =
     let p = c.ranges.price in
     let k = c.ranges.kwh in
-    simp to_z-of_z (fits-w64 (c.args.price *ℤ c.args.kwh) (omega (arith, small c, c.requires.kwh)))
+    simp to_z-of_z (fits_w64 (c.args.price *ℤ c.args.kwh) (omega (arith, small c, c.requires.kwh)))
 
 pub returns : goal.returns
 returns c =
     let p = c.ranges.price in
     let k = c.ranges.kwh in
-    let f : SFits w64 (c.args.price *ℤ c.args.kwh) = fits-w64 (c.args.price *ℤ c.args.kwh) (omega (arith, small c, c.requires.kwh)) in
+    let f : SFits w64 (c.args.price *ℤ c.args.kwh) = fits_w64 (c.args.price *ℤ c.args.kwh) (omega (arith, small c, c.requires.kwh)) in
     record { value = simp to_z-of_z; bound = simp to_z-of_z (small c) }

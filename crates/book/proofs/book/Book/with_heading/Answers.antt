@@ -1,10 +1,10 @@
 use Rattle.std.proofs.Common.{refl}
-use Rattle.book.proofs.Held.{same-records}
+use Rattle.book.proofs.Held.{same_records}
 use Rattle.book.proofs.book.Book.with_heading.Goals as goal
 
 pub returns : goal.returns
 returns c =
-    same-records _ _ refl
+    same_records _ _ refl
     c.in-ok-prices.ensures.items
     c.in-ok-positions.ensures.items
     c.in-ok-interconnections.ensures.items

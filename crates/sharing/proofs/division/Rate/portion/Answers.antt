@@ -1,20 +1,20 @@
 use Rattle.std.proofs.Common.{◌≡◌, ℕ, ◌+◌, ◌*◌, ◌/◌, ◌%◌, ap, ◌∙◌, arith}
-use Rattle.sharing.specs.Limits.{most-weight}
+use Rattle.sharing.specs.Limits.{most_weight}
 use Rattle.sharing.specs.declared.division.Rate.{Rate}
-use Rattle.sharing.proofs.Proportions.{each_fits, exact-quotient, exact-remainder, portion-le, rest-fits}
+use Rattle.sharing.proofs.Proportions.{each_fits, exact_quotient, exact_remainder, portion_le, rest_fits}
 use Rattle.sharing.proofs.division.Rate.portion.Goals as goal
 
 floor : (rate : Rate) (weight quotient : ℕ) → quotient ≡ rate.rest * weight / rate.total → rate.each * weight + quotient ≡ rate.amount * weight / rate.total
 floor rate weight quotient e =
     ap (λ n. n * weight + quotient) rate.each_is
     ∙ ap (λ n. rate.amount / rate.total * weight + n) (e ∙ ap (λ n. n * weight / rate.total) rate.rest_is)
-    ∙ exact-quotient rate.amount rate.total weight rate.some
+    ∙ exact_quotient rate.amount rate.total weight rate.some
 
 pub overflow-mul-self : goal.overflow-mul-self
 overflow-mul-self c =
     let rate = c.args.self.now in
     let w = c.args.weight in
-    omega (arith, ap (λ n. n * w) rate.rest_is, rest-fits most-weight rate.amount rate.total w rate.some c.requires rate.light)
+    omega (arith, ap (λ n. n * w) rate.rest_is, rest_fits most_weight rate.amount rate.total w rate.some c.requires rate.light)
 
 pub overflow-mul-result : goal.overflow-mul-result
 overflow-mul-result c =
@@ -26,7 +26,7 @@ pub overflow-add-result : goal.overflow-add-result
 overflow-add-result c =
     let rate = c.args.self.now in
     let w = c.args.weight in
-    omega (arith, floor rate w c.divide-divided.result.quotient c.divide-divided.ensures.quotient, portion-le rate.amount rate.total w rate.some c.requires, rate.small)
+    omega (arith, floor rate w c.divide-divided.result.quotient c.divide-divided.ensures.quotient, portion_le rate.amount rate.total w rate.some c.requires, rate.small)
 
 pub returns : goal.returns
 returns c =
@@ -34,5 +34,5 @@ returns c =
     let w = c.args.weight in
     record {
       floor = floor rate w c.divide-divided.result.quotient c.divide-divided.ensures.quotient;
-      rest = c.divide-divided.ensures.remainder ∙ ap (λ n. n * w % rate.total) rate.rest_is ∙ exact-remainder rate.amount rate.total w;
+      rest = c.divide-divided.ensures.remainder ∙ ap (λ n. n * w % rate.total) rate.rest_is ∙ exact_remainder rate.amount rate.total w;
     }

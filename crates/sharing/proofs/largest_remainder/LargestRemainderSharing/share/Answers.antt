@@ -1,15 +1,15 @@
 use Rattle.std.proofs.Common.{◌≡◌, ◌<◌, true, length, sum, sym, refl, ap, ◌∙◌, arith}
 use Rattle.std.proofs.lemmas.Result.{err_from_is_err_and}
-use Rattle.sharing.specs.LargestRemainder.{largest-remainder}
-use Rattle.sharing.specs.Shareable.{admitted, not-shareable, shareable}
-use Rattle.sharing.specs.Admitted.{admitted-parts, answers, facts, ok_of, refuses, zero-parts}
-use Rattle.sharing.specs.LargestFair.{largest-remainder-fair}
+use Rattle.sharing.specs.LargestRemainder.{largest_remainder}
+use Rattle.sharing.specs.Shareable.{admitted, not_shareable, shareable}
+use Rattle.sharing.specs.Admitted.{admitted_parts, answers, facts, ok_of, refuses, zero_parts}
+use Rattle.sharing.specs.LargestFair.{largest_remainder_fair}
 use Rattle.sharing.proofs.largest_remainder.LargestRemainderSharing.share.Goals as goal
 
 pub returns-in-err-total : goal.returns-in-err-total
 returns-in-err-total c =
     let p = err_from_is_err_and c.from-residual.result c.from-residual.ensures.1 in
-    let both = refuses largest-remainder c.args.amount c.args.weights.now c.args.shares.now c.in-err-total.field-0.0 c.in-err-total.ensures in
+    let both = refuses largest_remainder c.args.amount c.args.weights.now c.args.shares.now c.in-err-total.field-0.0 c.in-err-total.ensures in
     rw (p.1, p.2) record { answer = both.0; after = both.1 }
 
 pub returns-then-total-eq0 : goal.returns-then-total-eq0
@@ -17,10 +17,10 @@ returns-then-total-eq0 c =
     let a = c.args.amount in
     let ws = c.args.weights.now in
     let before = c.args.shares.now in
-    let p = ok_of (admitted a ws (length before)) (sum ws) c.in-ok-total.total not-shareable c.in-ok-total.ensures in
-    let q = admitted-parts a ws (length before) p.0 in
+    let p = ok_of (admitted a ws (length before)) (sum ws) c.in-ok-total.total not_shareable c.in-ok-total.ensures in
+    let q = admitted_parts a ws (length before) p.0 in
     let z : sum ws ≡ 0 = sym p.1 ∙ c.if-total-eq0.true in
     let long : length c.clear.new.shares ≡ length ws = c.clear.auto.shares ∙ q.0 in
-    let same = zero-parts largest-remainder largest-remainder-fair a ws q.1 z c.clear.new.shares long (λ k h. c.clear.ensures k (omega arith)) in
-    let both = answers largest-remainder a ws before c.clear.new.shares p.0 same in
+    let same = zero_parts largest_remainder largest_remainder_fair a ws q.1 z c.clear.new.shares long (λ k h. c.clear.ensures k (omega arith)) in
+    let both = answers largest_remainder a ws before c.clear.new.shares p.0 same in
     record { answer = both.0; after = both.1 }

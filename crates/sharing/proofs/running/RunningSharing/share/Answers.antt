@@ -1,9 +1,9 @@
 use Rattle.std.proofs.Common.{◌≡◌, ◌<◌, true, length, sum, sym, refl, ap, ◌∙◌, arith}
 use Rattle.std.proofs.lemmas.Result.{err_from_is_err_and}
 use Rattle.sharing.specs.Running.{running}
-use Rattle.sharing.specs.Shareable.{admitted, not-shareable, shareable}
-use Rattle.sharing.specs.Admitted.{admitted-parts, answers, facts, ok_of, refuses, zero-parts}
-use Rattle.sharing.specs.RunningFair.{running-fair}
+use Rattle.sharing.specs.Shareable.{admitted, not_shareable, shareable}
+use Rattle.sharing.specs.Admitted.{admitted_parts, answers, facts, ok_of, refuses, zero_parts}
+use Rattle.sharing.specs.RunningFair.{running_fair}
 use Rattle.sharing.proofs.running.RunningSharing.share.Goals as goal
 
 pub returns-in-err-total : goal.returns-in-err-total
@@ -17,10 +17,10 @@ returns-then-total-eq0 c =
     let a = c.args.amount in
     let ws = c.args.weights.now in
     let before = c.args.shares.now in
-    let p = ok_of (admitted a ws (length before)) (sum ws) c.in-ok-total.total not-shareable c.in-ok-total.ensures in
-    let q = admitted-parts a ws (length before) p.0 in
+    let p = ok_of (admitted a ws (length before)) (sum ws) c.in-ok-total.total not_shareable c.in-ok-total.ensures in
+    let q = admitted_parts a ws (length before) p.0 in
     let z : sum ws ≡ 0 = sym p.1 ∙ c.if-total-eq0.true in
     let long : length c.clear.new.shares ≡ length ws = c.clear.auto.shares ∙ q.0 in
-    let same = zero-parts running running-fair a ws q.1 z c.clear.new.shares long (λ k h. c.clear.ensures k (omega arith)) in
+    let same = zero_parts running running_fair a ws q.1 z c.clear.new.shares long (λ k h. c.clear.ensures k (omega arith)) in
     let both = answers running a ws before c.clear.new.shares p.0 same in
     record { answer = both.0; after = both.1 }
