@@ -5,5 +5,5 @@ use Rattle.dayfile_encode.proofs.eight_bytes.Goals as goal
 
 pub returns : goal.returns
 returns c =
-    let e = c.to-be-bytes.ensures in
+    let e = c.to_be_bytes.ensures in
     record { bytes = e; back = ap (λ bytes. eight_bytes bytes 0) e ∙ eight_back c.args.n (omega arith) }

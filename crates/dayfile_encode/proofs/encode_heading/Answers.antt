@@ -11,8 +11,8 @@ use Rattle.dayfile_encode.proofs.encode_heading.Goals as goal
 pub returns : goal.returns
 returns c =
     let h = c.args.heading in
-    let bytes = c.bytes-of-heading.ensures.bytes in
-    let year = ap (λ xs. two_bytes xs 2) (sym bytes) ∙ c.bytes-of-heading.ensures.year in
+    let bytes = c.bytes_of_heading.ensures.bytes in
+    let year = ap (λ xs. two_bytes xs 2) (sym bytes) ∙ c.bytes_of_heading.ensures.year in
     record {
       bytes = bytes;
       back =

@@ -9,5 +9,5 @@ pub returns : goal.returns
 returns c =
     let same : to_z w32 (of_z w32 c.args.n) ≡ c.args.n = to_z-of_z c.ranges.n in
     let fits : Fits w32 (of_z w32 c.args.n) = Fits-of_z c.ranges.n in
-    let e = c.to-be-bytes.ensures ∙ ap in_four_signed same in
+    let e = c.to_be_bytes.ensures ∙ ap in_four_signed same in
     record { bytes = e; back = ap (λ bytes. signed_four_bytes bytes 0) e ∙ ap (to_z w32) (four_back (of_z w32 c.args.n) fits.fits) ∙ same }

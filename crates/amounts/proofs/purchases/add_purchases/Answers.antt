@@ -11,11 +11,11 @@ use Rattle.amounts.proofs.purchases.add_purchases.Goals as goal
 pub loop-x-init : goal.loop-x-init
 loop-x-init c = λ k h. (c.requires.clear k h, omega (arith, c.requires.clear k h))
 
-pub bought-in-requires : goal.bought-in-requires
-bought-in-requires c = All-get_or ValidPosition c.args.positions.now c.loop-x.x-index no_position (omega arith) c.requires.valid
+pub bought_in-requires : goal.bought_in-requires
+bought_in-requires c = All-get_or ValidPosition c.args.positions.now c.loop-x.x-index no_position (omega arith) c.requires.valid
 
-pub add-to-requires : goal.add-to-requires
-add-to-requires c =
+pub add_to-requires : goal.add_to-requires
+add_to-requires c =
     let xs = c.args.positions.now in
     let i = c.loop-x.x-index in
     let x = get_or xs i no_position in
@@ -25,7 +25,7 @@ add-to-requires c =
       low = p.0;
       high = high;
       room = omega (arith, (c.loop-x.invariant (x.account - 1) (omega (arith, p.0, high))).1, c.requires.few);
-      more = c.bought-in.ensures.bound;
+      more = c.bought_in.ensures.bound;
     }
 
 pub loop-x-preserved : goal.loop-x-preserved
@@ -33,12 +33,12 @@ loop-x-preserved c = λ k h.
     let xs = c.args.positions.now in
     let i = c.loop-x.x-index in
     let x = get_or xs i no_position in
-    let v : c.bought-in.result ≡ bought c.args.hour x = c.bought-in.ensures.value in
-    let was = c.loop-x.invariant k (omega (arith, h, c.add-to.auto.weights)) in
+    let v : c.bought_in.result ≡ bought c.args.hour x = c.bought_in.ensures.value in
+    let was = c.loop-x.invariant k (omega (arith, h, c.add_to.auto.weights)) in
     let more = sum_by_more (λ x. cond (eqb x.account (k + 1)) (bought c.args.hour x) 0) xs i no_position (omega arith) in
-    let grew : get_or c.add-to.new.weights k 0 ≡ get_or c.loop-x.weights k 0 + cond (eqb x.account (k + 1)) c.bought-in.result 0 = c.add-to.ensures k in
-    let same : cond (eqb x.account (k + 1)) c.bought-in.result 0 ≡ cond (eqb x.account (k + 1)) (bought c.args.hour x) 0 = ap (λ n. cond (eqb x.account (k + 1)) n 0) v in
-    (omega (arith, grew, same, was.0, more), omega (arith, grew, was.1, cond_le (eqb x.account (k + 1)) c.bought-in.result 2000000 c.bought-in.ensures.bound))
+    let grew : get_or c.add_to.new.weights k 0 ≡ get_or c.loop-x.weights k 0 + cond (eqb x.account (k + 1)) c.bought_in.result 0 = c.add_to.ensures k in
+    let same : cond (eqb x.account (k + 1)) c.bought_in.result 0 ≡ cond (eqb x.account (k + 1)) (bought c.args.hour x) 0 = ap (λ n. cond (eqb x.account (k + 1)) n 0) v in
+    (omega (arith, grew, same, was.0, more), omega (arith, grew, was.1, cond_le (eqb x.account (k + 1)) c.bought_in.result 2000000 c.bought_in.ensures.bound))
 
 pub returns : goal.returns
 returns c = λ k h. (c.loop-x.invariant k h).0 ∙ ap (bought_sum c.args.hour (k + 1)) (take_all c.loop-x.x-index c.args.positions.now (omega arith))

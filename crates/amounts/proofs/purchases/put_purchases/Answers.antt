@@ -5,8 +5,8 @@ use Rattle.std.specs.List.{AllByRecursion as All}
 use Rattle.amounts.specs.Buying.{bought_sum}
 use Rattle.amounts.proofs.purchases.put_purchases.Goals as goal
 
-pub add-purchases-requires : goal.add-purchases-requires
-add-purchases-requires c = record {
+pub add_purchases-requires : goal.add_purchases-requires
+add_purchases-requires c = record {
   few = c.requires.few;
   valid = c.requires.valid;
   listed = subst (λ (n : ℕ). All (λ x. (1 ≤ x.account) × (x.account ≤ n)) c.args.positions.now) (sym c.clear.auto.weights) c.requires.listed;
@@ -17,6 +17,6 @@ pub returns : goal.returns
 returns c =
     let n = length c.args.weights.now in
     let f : ℕ → ℕ = λ account. bought_sum c.args.hour account c.args.positions.now in
-    let long : length c.add-purchases.new.weights ≡ n = c.add-purchases.auto.weights ∙ c.clear.auto.weights in
-    ext_get_or 0 c.add-purchases.new.weights _ (long ∙ sym (length-map-range_with_len f 1 n))
-    (λ k h. c.add-purchases.ensures k h ∙ sym (get_or-map-range_with_len f 1 n k _ 0 (omega (arith, h, long)) (omega arith)))
+    let long : length c.add_purchases.new.weights ≡ n = c.add_purchases.auto.weights ∙ c.clear.auto.weights in
+    ext_get_or 0 c.add_purchases.new.weights _ (long ∙ sym (length-map-range_with_len f 1 n))
+    (λ k h. c.add_purchases.ensures k h ∙ sym (get_or-map-range_with_len f 1 n k _ 0 (omega (arith, h, long)) (omega arith)))

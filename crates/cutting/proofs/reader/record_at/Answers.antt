@@ -16,7 +16,7 @@ returns-in-Ok c = record { value = cut c.args.file.now c.args.offset _ c.in-Ok.e
 pub returns-in-Err : goal.returns-in-Err
 returns-in-Err c = record {
   value =
-      ap Err (c.at-offset.ensures ∙ ap (reading_at c.args.offset) c.plain.ensures)
+      ap Err (c.at_offset.ensures ∙ ap (reading_at c.args.offset) c.plain.ensures)
       ∙ cut c.args.file.now c.args.offset _ c.in-Err.ensures.value;
   within = tt;
 }

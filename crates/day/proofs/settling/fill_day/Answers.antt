@@ -10,7 +10,7 @@ returns-in-Ok g c =
     let went = c.in-Ok.ensures in
     record {
       value = nothing_against (settle_refusal r) went.value;
-      after = filled_is (settle_refusal r) c.args.table.now c.settle-answer.new.table (day_cell (g.R.Sharing.parts c.args.rule.now) r) c.cells-in.ensures went.after;
+      after = filled_is (settle_refusal r) c.args.table.now c.settle-answer.new.table (day_cell (g.R.Sharing.parts c.args.rule.now) r) c.cells_in.ensures went.after;
     }
 
 pub returns-in-Err : goal.returns-in-Err
@@ -19,5 +19,5 @@ returns-in-Err g c =
     let went = c.in-Err.ensures in
     record {
       value = something_against (settle_refusal r) c.in-Err.fault went.value;
-      after = filled_is (settle_refusal r) c.args.table.now c.settle-answer.new.table (day_cell (g.R.Sharing.parts c.args.rule.now) r) c.cells-in.ensures went.after;
+      after = filled_is (settle_refusal r) c.args.table.now c.settle-answer.new.table (day_cell (g.R.Sharing.parts c.args.rule.now) r) c.cells_in.ensures went.after;
     }

@@ -11,7 +11,7 @@ returns-in-Ok g c =
     let went = c.in-Ok.ensures in
     record {
       value = nothing_against (sheet_refusal r c.args.hour) went.value;
-      after = filled_is (sheet_refusal r c.args.hour) c.args.page.now c.fill-sheet-answer.new.table (sheet (g.R.Sharing.parts c.args.rule.now) r c.args.hour) c.cells-in.ensures went.after;
+      after = filled_is (sheet_refusal r c.args.hour) c.args.page.now c.fill_sheet-answer.new.table (sheet (g.R.Sharing.parts c.args.rule.now) r c.args.hour) c.cells_in.ensures went.after;
     }
 
 pub returns-in-Err : goal.returns-in-Err
@@ -20,5 +20,5 @@ returns-in-Err g c =
     let went = c.in-Err.ensures in
     record {
       value = something_against (sheet_refusal r c.args.hour) c.in-Err.fault went.value;
-      after = filled_is (sheet_refusal r c.args.hour) c.args.page.now c.fill-sheet-answer.new.table (sheet (g.R.Sharing.parts c.args.rule.now) r c.args.hour) c.cells-in.ensures went.after;
+      after = filled_is (sheet_refusal r c.args.hour) c.args.page.now c.fill_sheet-answer.new.table (sheet (g.R.Sharing.parts c.args.rule.now) r c.args.hour) c.cells_in.ensures went.after;
     }

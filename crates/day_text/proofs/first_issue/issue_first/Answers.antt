@@ -10,7 +10,7 @@ issue-requires c =
     let t = c.args.table.now in
     record {
       sound = none_sound c.clear.new.ledger t (omega (arith, c.requires.room, c.clear.auto.ledger)) c.requires.small 0;
-      limited = cells_within t c.cells-in.ensures c.requires.small;
+      limited = cells_within t c.cells_in.ensures c.requires.small;
       left = omega arith;
     }
 

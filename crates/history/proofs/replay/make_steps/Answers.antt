@@ -26,7 +26,7 @@ pub loop-step-preserved : goal.loop-step-preserved
 loop-step-preserved g c =
     let inv = c.loop-step.invariant in
     let room : length c.loop-step.buffer ≡ length c.args.buffer.now = omega arith in
-    let pushed = c.push-reserved.ensures in (
+    let pushed = c.push_reserved.ensures in (
       omega arith,
       omega arith,
       rw pushed.items (step_more g.R.Sharing.parts _ c.args.steps.now _ Done _ c.loop-step.step-index c.step-item.result c.in-Made.answer c.loop-step.day c.in-Made.next _ _ _ _ _ _ inv.2 c.in-Made.ensures room c.loop-step-test.true (search rules)),

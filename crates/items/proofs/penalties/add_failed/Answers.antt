@@ -14,11 +14,11 @@ use Rattle.items.proofs.penalties.add_failed.Goals as goal
 pub loop-x-init : goal.loop-x-init
 loop-x-init c = λ k h. (c.requires.clear k h, omega (arith, ap nat_abs (c.requires.clear k h)))
 
-pub failing-term-requires : goal.failing-term-requires
-failing-term-requires c = All-get_or ValidReserve c.args.reserves.now c.loop-x.x-index no_reserve (omega arith) c.requires.valid
+pub failing_term-requires : goal.failing_term-requires
+failing_term-requires c = All-get_or ValidReserve c.args.reserves.now c.loop-x.x-index no_reserve (omega arith) c.requires.valid
 
-pub add-to-requires : goal.add-to-requires
-add-to-requires c =
+pub add_to-requires : goal.add_to-requires
+add_to-requires c =
     let xs = c.args.reserves.now in
     let i = c.loop-x.x-index in
     let x = get_or xs i no_reserve in
@@ -36,13 +36,13 @@ loop-x-preserved c = λ k h.
     let xs = c.args.reserves.now in
     let i = c.loop-x.x-index in
     let x = get_or xs i no_reserve in
-    let z = to_z-of_z w64 c.failing-term.result (record { sfits = c.failing-term.type-inv }) in
-    let was = c.loop-x.invariant k (omega (arith, h, c.add-to.auto.sums)) in
+    let z = to_z-of_z w64 c.failing_term.result (record { sfits = c.failing_term.type-inv }) in
+    let was = c.loop-x.invariant k (omega (arith, h, c.add_to.auto.sums)) in
     let more = sum_more (λ x. owned_by x.account (k + 1) (failing c.args.failure x)) xs i no_reserve (omega arith) in
-    let grew : get_or c.add-to.new.sums k (pos 0) ≡ get_or c.loop-x.sums k (pos 0) +ℤ owned_by x.account (k + 1) c.failing-term.result =
-    c.add-to.ensures k ∙ ap (λ v. get_or c.loop-x.sums k (pos 0) +ℤ owned_by x.account (k + 1) v) z in
-    let same : owned_by x.account (k + 1) c.failing-term.result ≡ owned_by x.account (k + 1) (failing c.args.failure x) = ap (owned_by x.account (k + 1)) c.failing-term.ensures.value in
-    (omega (arith, ints, grew, same, was.0, more), omega (arith, ints, grew, was.1, owned_le x.account (k + 1) c.failing-term.result 40000000000000 c.failing-term.ensures.bound))
+    let grew : get_or c.add_to.new.sums k (pos 0) ≡ get_or c.loop-x.sums k (pos 0) +ℤ owned_by x.account (k + 1) c.failing_term.result =
+    c.add_to.ensures k ∙ ap (λ v. get_or c.loop-x.sums k (pos 0) +ℤ owned_by x.account (k + 1) v) z in
+    let same : owned_by x.account (k + 1) c.failing_term.result ≡ owned_by x.account (k + 1) (failing c.args.failure x) = ap (owned_by x.account (k + 1)) c.failing_term.ensures.value in
+    (omega (arith, ints, grew, same, was.0, more), omega (arith, ints, grew, was.1, owned_le x.account (k + 1) c.failing_term.result 40000000000000 c.failing_term.ensures.bound))
 
 pub returns : goal.returns
 returns c = record {

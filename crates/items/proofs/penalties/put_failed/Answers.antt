@@ -2,8 +2,8 @@ use Rattle.std.proofs.Common.{◌≡◌, ℕ, ◌≤◌, sym, subst}
 use Rattle.std.specs.List.{AllByRecursion as All}
 use Rattle.items.proofs.penalties.put_failed.Goals as goal
 
-pub add-failed-requires : goal.add-failed-requires
-add-failed-requires c = record {
+pub add_failed-requires : goal.add_failed-requires
+add_failed-requires c = record {
   few = c.requires.few;
   valid = c.requires.valid;
   listed = subst (λ (n : ℕ). All (λ x. (1 ≤ x.account) × (x.account ≤ n)) c.args.reserves.now) (sym c.clear.auto.sums) c.requires.listed;

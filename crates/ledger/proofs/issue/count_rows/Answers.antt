@@ -12,8 +12,8 @@ loop-row-preserved c =
     let rows = c.args.rows.now in
     let i = c.loop-row.row-index in (
       λ number.
-          (λ j. c.loop-row.invariant.0 number j + c.count-row-count.ensures.value number j) ∙ sym (length_pieces_more (rows_notes number (cell c.args.rest.now)) rows no_row i c.loop-row-test.true),
-      omega (arith, c.loop-row.invariant.1, c.count-row-count.ensures.bound),
+          (λ j. c.loop-row.invariant.0 number j + c.count_row-count.ensures.value number j) ∙ sym (length_pieces_more (rows_notes number (cell c.args.rest.now)) rows no_row i c.loop-row-test.true),
+      omega (arith, c.loop-row.invariant.1, c.count_row-count.ensures.bound),
     )
 
 pub returns : goal.returns

@@ -21,6 +21,6 @@ returns c =
     let taken = subst (λ ns. TakenOff t r (noted ns)) (front led c.args.notes) c.over-rest.ensures in
     let new = rest_notes led c.args.notes c.args.issues t r taken in
     record {
-      answer = c.add-notes.ensures.answer ∙ ap (issue_answer led c.args.notes) new;
-      after = c.add-notes.ensures.after ∙ ap (issue_leaves led c.args.notes) new;
+      answer = c.add_notes.ensures.answer ∙ ap (issue_answer led c.args.notes) new;
+      after = c.add_notes.ensures.after ∙ ap (issue_leaves led c.args.notes) new;
     }

@@ -13,8 +13,8 @@ loop-party-init c =
     subst (λ ns. Wrote c.args.ledger.now c.args.at ns c.args.ledger.now c.args.at) (sym (row_none c.args.issue (cell c.args.rest.now) c.args.code))
     (none c.args.ledger.now c.args.at (omega arith))
 
-pub put-note-end-requires : goal.put-note-end-requires
-put-note-end-requires c =
+pub put_note-end-requires : goal.put_note-end-requires
+put_note-end-requires c =
     room_step c.args.issue (cell c.args.rest.now) c.args.parties.now c.args.code c.loop-party.party-index c.loop-party-test.true _
     (to_z-of_z w64 c.amount.result (record { sfits = c.amount.type-inv }) ∙ c.amount.ensures) c.args.ledger.now c.loop-party.ledger c.args.at c.loop-party.end
     c.loop-party.invariant c.requires c.loop-party.auto.ledger
@@ -22,8 +22,8 @@ put-note-end-requires c =
 pub loop-party-preserved : goal.loop-party-preserved
 loop-party-preserved c =
     wrote_step c.args.issue (cell c.args.rest.now) c.args.parties.now c.args.code c.loop-party.party-index c.loop-party-test.true _
-    (to_z-of_z w64 c.amount.result (record { sfits = c.amount.type-inv }) ∙ c.amount.ensures) c.args.ledger.now c.loop-party.ledger c.put-note-end.new.ledger c.args.at
-    c.loop-party.end c.put-note-end.result c.loop-party.invariant c.put-note-end.ensures
+    (to_z-of_z w64 c.amount.result (record { sfits = c.amount.type-inv }) ∙ c.amount.ensures) c.args.ledger.now c.loop-party.ledger c.put_note-end.new.ledger c.args.at
+    c.loop-party.end c.put_note-end.result c.loop-party.invariant c.put_note-end.ensures
 
 pub returns : goal.returns
 returns c =

@@ -11,8 +11,8 @@ use Rattle.ledger.proofs.issue.put_rows.Goals as goal
 pub loop-row-init : goal.loop-row-init
 loop-row-init c = none c.args.ledger.now c.args.at (omega arith)
 
-pub put-row-end-requires : goal.put-row-end-requires
-put-row-end-requires c =
+pub put_row-end-requires : goal.put_row-end-requires
+put_row-end-requires c =
     let f = rows_notes c.args.issue (cell c.args.rest.now) in
     let rows = c.args.rows.now in
     let i = c.loop-row.row-index in
@@ -23,7 +23,7 @@ loop-row-preserved c =
     let f = rows_notes c.args.issue (cell c.args.rest.now) in
     let rows = c.args.rows.now in
     let i = c.loop-row.row-index in
-    rw (pieces_more f rows no_row i c.loop-row-test.true) (after (flat_map f (take i rows)) (f (get_or rows i no_row)) c.loop-row.invariant c.put-row-end.ensures)
+    rw (pieces_more f rows no_row i c.loop-row-test.true) (after (flat_map f (take i rows)) (f (get_or rows i no_row)) c.loop-row.invariant c.put_row-end.ensures)
 
 pub returns : goal.returns
 returns c =

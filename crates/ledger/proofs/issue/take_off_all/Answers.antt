@@ -8,12 +8,12 @@ use Rattle.ledger.proofs.issue.take_off_all.Goals as goal
 pub loop-note-init : goal.loop-note-init
 loop-note-init c = taken_none c.args.rest.now c.args.rest.now refl
 
-pub take-off-requires : goal.take-off-requires
-take-off-requires c = takeable_next c.args.rest.now c.loop-note.rest c.args.notes.now c.loop-note.note-index c.loop-note-test.true c.loop-note.invariant c.requires
+pub take_off-requires : goal.take_off-requires
+take_off-requires c = takeable_next c.args.rest.now c.loop-note.rest c.args.notes.now c.loop-note.note-index c.loop-note-test.true c.loop-note.invariant c.requires
 
 pub loop-note-preserved : goal.loop-note-preserved
 loop-note-preserved c =
-    taken_more c.args.rest.now c.loop-note.rest c.args.notes.now c.loop-note.note-index c.loop-note-test.true c.loop-note.invariant c.take-off.new.rest c.take-off.ensures
+    taken_more c.args.rest.now c.loop-note.rest c.args.notes.now c.loop-note.note-index c.loop-note-test.true c.loop-note.invariant c.take_off.new.rest c.take_off.ensures
 
 pub returns : goal.returns
 returns c =

@@ -5,12 +5,12 @@ use Rattle.ledger.specs.Notes.{within}
 use Rattle.ledger.proofs.Soundness.{past, within_all, within_more}
 use Rattle.ledger.proofs.sound.all_within.Goals as goal
 
-pub returns-then-not-amount-within : goal.returns-then-not-amount-within
-returns-then-not-amount-within c =
+pub returns-then-not-amount_within : goal.returns-then-not-amount_within
+returns-then-not-amount_within c =
     let zs = c.args.amounts.now in
     let i = c.loop-amount.amount-index in
     let f : SFits w64 (get_or zs i (pos 0)) = search rules in
-    let not_within : within (get_or zs i (pos 0)) ≡ false = sym (c.if-not-amount-within.ensures ∙ ap within (to_z-of_z w64 (get_or zs i (pos 0)) f)) in
+    let not_within : within (get_or zs i (pos 0)) ≡ false = sym (c.if-not-amount_within.ensures ∙ ap within (to_z-of_z w64 (get_or zs i (pos 0)) f)) in
     sym (c.loop-amount.invariant ∙ within_more zs i c.loop-amount-test.true ∙ and_left _ _ not_within)
 
 pub loop-amount-preserved : goal.loop-amount-preserved
@@ -18,7 +18,7 @@ loop-amount-preserved c =
     let zs = c.args.amounts.now in
     let i = c.loop-amount.amount-index in
     let f : SFits w64 (get_or zs i (pos 0)) = search rules in
-    let is_within : within (get_or zs i (pos 0)) ≡ true = sym (c.if-not-amount-within.ensures ∙ ap within (to_z-of_z w64 (get_or zs i (pos 0)) f)) in
+    let is_within : within (get_or zs i (pos 0)) ≡ true = sym (c.if-not-amount_within.ensures ∙ ap within (to_z-of_z w64 (get_or zs i (pos 0)) f)) in
     c.loop-amount.invariant ∙ within_more zs i c.loop-amount-test.true ∙ past _ _ is_within
 
 pub returns : goal.returns

@@ -6,14 +6,14 @@ use Rattle.ledger.specs.Notes.{known}
 use Rattle.ledger.proofs.Soundness.{past}
 use Rattle.ledger.proofs.sound.is_known.Goals as goal
 
-pub returns-then-is-some : goal.returns-then-is-some
+pub returns-then-is_some : goal.returns-then-is_some
 unfolding known
-returns-then-is-some c =
-    c.is-some-then-is-some.ensures ∙ ap is_some c.party_place.ensures.value
-    ∙ sym (past (is_some (code_of c.args.note.now.code)) (is_some (party_place c.args.note.now.party)) (sym (c.if-is-some.ensures ∙ ap is_some c.from-number.ensures)))
+returns-then-is_some c =
+    c.is_some-then-is_some.ensures ∙ ap is_some c.party_place.ensures.value
+    ∙ sym (past (is_some (code_of c.args.note.now.code)) (is_some (party_place c.args.note.now.party)) (sym (c.if-is_some.ensures ∙ ap is_some c.from_number.ensures)))
 
-pub returns-else-is-some : goal.returns-else-is-some
+pub returns-else-is_some : goal.returns-else-is_some
 unfolding known
-returns-else-is-some c =
-    c.if-is-some.false
-    ∙ sym (and_left (is_some (code_of c.args.note.now.code)) (is_some (party_place c.args.note.now.party)) (sym (c.if-is-some.ensures ∙ ap is_some c.from-number.ensures)))
+returns-else-is_some c =
+    c.if-is_some.false
+    ∙ sym (and_left (is_some (code_of c.args.note.now.code)) (is_some (party_place c.args.note.now.party)) (sym (c.if-is_some.ensures ∙ ap is_some c.from_number.ensures)))

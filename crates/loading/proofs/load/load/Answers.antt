@@ -12,7 +12,7 @@ returns-in-Ok c =
     let b = held c.args.book.now in
     let p = load_ok c.args.file.now _ _ b _ _ _ (e.file ∙ n) (e.offset ∙ ap (λ f. past 0 (cut_at f 0)) n)
     (e.value ∙ ap (λ f. answer (opening f)) n) (e.after ∙ ap (λ f. opened b (opening f)) n)
-    c.read-or-clear.ensures.value c.read-or-clear.ensures.after in
+    c.read_or_clear.ensures.value c.read_or_clear.ensures.after in
     record { value = p.0; after = p.1 }
 
 pub returns-in-Err : goal.returns-in-Err

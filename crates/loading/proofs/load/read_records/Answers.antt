@@ -10,7 +10,7 @@ loop-answer-init c = (refl, (suc (length c.args.reader.now.file.now), omega arit
 pub loop-answer-smaller : goal.loop-answer-smaller
 loop-answer-smaller c =
     let e = c.in-More.ensures in
-    omega (arith, e.moves, ap length e.file, c.take-next.new.reader.inside)
+    omega (arith, e.moves, ap length e.file, c.take_next.new.reader.inside)
 
 pub loop-answer-preserved : goal.loop-answer-preserved
 loop-answer-preserved c =
@@ -18,9 +18,9 @@ loop-answer-preserved c =
     let i = c.loop-answer.invariant in
     let file = c.args.reader.now.file.now in
     let same = e.file ∙ i.0 in
-    let inside : c.take-next.new.reader.offset ≤ length file = omega (arith, ap length same, c.take-next.new.reader.inside) in (
+    let inside : c.take_next.new.reader.offset ≤ length file = omega (arith, ap length same, c.take_next.new.reader.inside) in (
       same,
-      goes_further i.1.0 file c.loop-answer.reader.offset c.take-next.new.reader.offset (held c.loop-answer.book) (held c.take-next.new.book) _
+      goes_further i.1.0 file c.loop-answer.reader.offset c.take_next.new.reader.offset (held c.loop-answer.book) (held c.take_next.new.book) _
           i.1.1 e.moves inside (e.value ∙ ap (λ f. step f c.loop-answer.reader.offset (held c.loop-answer.book)) i.0) i.1.2,
     )
 

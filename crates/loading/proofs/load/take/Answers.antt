@@ -9,11 +9,11 @@ returns-in-Ok c =
     let part = c.args.part.now in
     let e = c.in-Ok.ensures in
     ap (goes_on (c.args.offset + length part)) e.after
-    ∙ enters_ok c.args.is-last c.args.offset (held c.args.book.now) part
-    (sym (c.if-is-ok.ensures.value ∙ ap is_ok c.decode-end.ensures)) e.value
+    ∙ enters_ok c.args.is_last c.args.offset (held c.args.book.now) part
+    (sym (c.if-is_ok.ensures.value ∙ ap is_ok c.decode_end.ensures)) e.value
 
 pub returns-in-Err : goal.returns-in-Err
 returns-in-Err c =
-    ap (λ f. is_over (Err f)) c.at-offset.ensures
-    ∙ enters_err c.args.is-last c.args.offset (held c.args.book.now) c.args.part.now c.in-Err.fault
-    (sym (c.if-is-ok.ensures.value ∙ ap is_ok c.decode-end.ensures)) c.in-Err.ensures.value
+    ap (λ f. is_over (Err f)) c.at_offset.ensures
+    ∙ enters_err c.args.is_last c.args.offset (held c.args.book.now) c.args.part.now c.in-Err.fault
+    (sym (c.if-is_ok.ensures.value ∙ ap is_ok c.decode_end.ensures)) c.in-Err.ensures.value

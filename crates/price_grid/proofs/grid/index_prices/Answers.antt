@@ -19,8 +19,8 @@ loop-i-preserved c =
     let p = get_or xs k no_price in
     let back : i ≡ k + 1 = omega arith in
     let rest : p ∷ drop i xs ≡ drop k xs = ap (λ n. p ∷ drop n xs) back ∙ sym (drop_more xs k no_price (omega arith)) in
-    subst (λ (ps : List Price). Indexes c.put-price.new.spots ps) rest
-    (indexes_more c.loop-i.spots c.put-price.new.spots p (drop i xs) c.put-price.ensures c.loop-i.invariant)
+    subst (λ (ps : List Price). Indexes c.put_price.new.spots ps) rest
+    (indexes_more c.loop-i.spots c.put_price.new.spots p (drop i xs) c.put_price.ensures c.loop-i.invariant)
 
 pub returns : goal.returns
 returns c =

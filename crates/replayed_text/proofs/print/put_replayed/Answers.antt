@@ -12,11 +12,11 @@ returns-in-Ok c =
     let before = memory (held c.args.book.now) c.args.table.now c.args.ledger.now in
     let after = memory (held c.replay.new.book) c.replay.new.table c.replay.new.ledger in
     let end = c.in-Ok.end in
-    let ends = run_ends _ c.first-issue-steps.result c.first-issue-steps.ensures c.args.file before (lent c.args.page.now c.args.buffer.now) c.requires.ledger c.requires.buffer end.day (vec_items end.answers) after (lent c.replay.new.page c.replay.new.buffer) c.in-Ok.ensures.run in
+    let ends = run_ends _ c.first_issue-steps.result c.first_issue-steps.ensures c.args.file before (lent c.args.page.now c.args.buffer.now) c.requires.ledger c.requires.buffer end.day (vec_items end.answers) after (lent c.replay.new.page c.replay.new.buffer) c.in-Ok.ensures.run in
     record {
-      answer = c.put-end.ensures.length ∙ ends.long;
-      after = c.put-end.ensures.after ∙ ends.holds;
-      within = omega (arith, c.put-end.ensures.length, ends.long, ends.within c.put-end.ensures.fits);
+      answer = c.put_end.ensures.length ∙ ends.long;
+      after = c.put_end.ensures.after ∙ ends.holds;
+      within = omega (arith, c.put_end.ensures.length, ends.long, ends.within c.put_end.ensures.fits);
     }
 
 pub returns-in-Refused : goal.returns-in-Refused
@@ -24,9 +24,9 @@ returns-in-Refused c =
     let fault = c.in-Refused.fault in
     let before = memory (held c.args.book.now) c.args.table.now c.args.ledger.now in
     let after = memory (held c.replay.new.book) c.replay.new.table c.replay.new.ledger in
-    let run = run_refused c.first-issue-steps.result c.args.file before after (lent c.args.page.now c.args.buffer.now) (lent c.replay.new.page c.replay.new.buffer) c.in-Err.why fault c.in-Refused.is c.in-Err.ensures.run in
+    let run = run_refused c.first_issue-steps.result c.args.file before after (lent c.args.page.now c.args.buffer.now) (lent c.replay.new.page c.replay.new.buffer) c.in-Err.why fault c.in-Refused.is c.in-Err.ensures.run in
     record {
-      answer = c.put-fault.ensures.answer ∙ ap length (sym run.0);
-      after = c.put-fault.ensures.after ∙ ap (left_if_fits (refused_text fault)) run.1 ∙ ap (λ t. left_if_fits t c.args.buffer.now) (sym run.0);
-      within = omega (arith, c.put-fault.ensures.within, ap length run.1);
+      answer = c.put_fault.ensures.answer ∙ ap length (sym run.0);
+      after = c.put_fault.ensures.after ∙ ap (left_if_fits (refused_text fault)) run.1 ∙ ap (λ t. left_if_fits t c.args.buffer.now) (sym run.0);
+      within = omega (arith, c.put_fault.ensures.within, ap length run.1);
     }

@@ -3,8 +3,8 @@ use Rattle.script.proofs.Steps.{digit_at}
 use Rattle.script.proofs.hex.byte_at.Goals as goal
 
 pub overflow-mul-result : goal.overflow-mul-result
-overflow-mul-result c = omega (arith, c.digit-value.ensures.value, digit_at 16 c.args.digits.now (2 * c.args.index) c.requires.right (omega arith))
+overflow-mul-result c = omega (arith, c.digit_value.ensures.value, digit_at 16 c.args.digits.now (2 * c.args.index) c.requires.right (omega arith))
 
 pub overflow-add-result : goal.overflow-add-result
 overflow-add-result c =
-    omega (arith, c.digit-value.ensures.value, digit_at 16 c.args.digits.now (2 * c.args.index) c.requires.right (omega arith), c.digit-value-2.ensures.value, digit_at 16 c.args.digits.now (2 * c.args.index + 1) c.requires.right (omega arith))
+    omega (arith, c.digit_value.ensures.value, digit_at 16 c.args.digits.now (2 * c.args.index) c.requires.right (omega arith), c.digit_value-2.ensures.value, digit_at 16 c.args.digits.now (2 * c.args.index + 1) c.requires.right (omega arith))

@@ -9,6 +9,6 @@ pub loop-place-preserved : goal.loop-place-preserved
 loop-place-preserved c =
     let i = c.loop-place.place in
     let page = c.args.page.now in (
-      rw (lines_more page i) (after (lines_to i page) (line_of (cell_at page i)) c.loop-place.invariant.0 c.put-place-end.ensures.wrote),
-      omega (arith, c.loop-place.invariant.1, c.put-place-end.ensures.bound),
+      rw (lines_more page i) (after (lines_to i page) (line_of (cell_at page i)) c.loop-place.invariant.0 c.put_place-end.ensures.wrote),
+      omega (arith, c.loop-place.invariant.1, c.put_place-end.ensures.bound),
     )

@@ -10,6 +10,6 @@ pub returns : goal.returns
 unfolding sheet_text
 returns c =
     let lines = lines_to cell_count c.args.page.now in
-    subst (λ z. Wrote c.args.buffer.now 0 z c.put-end.new.buffer c.put-end.result)
-    (ap (λ k. lines ++ last_line k) c.count-lines.ensures)
-    (after lines (last_line c.count-lines.result) c.put-lines-end.ensures.wrote c.put-end.ensures)
+    subst (λ z. Wrote c.args.buffer.now 0 z c.put_end.new.buffer c.put_end.result)
+    (ap (λ k. lines ++ last_line k) c.count_lines.ensures)
+    (after lines (last_line c.count_lines.result) c.put_lines-end.ensures.wrote c.put_end.ensures)

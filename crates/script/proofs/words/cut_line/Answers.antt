@@ -7,8 +7,8 @@ use Rattle.script.proofs.words.cut_line.Goals as goal
 pub returns-then-end-text : goal.returns-then-end-text
 returns-then-end-text c =
     let t = c.args.text.now in
-    let r = c.length-before-end.result in
-    let is = c.length-before-end.ensures.value in
+    let r = c.length_before-end.result in
+    let is = c.length_before-end.ensures.value in
     let front : r - 0 ≡ before LineEnd t = omega (arith, is) in
     let next : r + 1 ≡ suc (before LineEnd t) = omega (arith, is) in
     record {
@@ -20,8 +20,8 @@ returns-then-end-text c =
 pub returns-else-end-text : goal.returns-else-end-text
 returns-else-end-text c =
     let t = c.args.text.now in
-    let r = c.length-before-end.result in
-    let is = c.length-before-end.ensures.value in
+    let r = c.length_before-end.result in
+    let is = c.length_before-end.ensures.value in
     record {
       line = sym (take_all (before LineEnd t) t (omega (arith, is)));
       rest = take_rest t r ∙ drop_all r t (omega arith) ∙ sym (drop_all (suc (before LineEnd t)) t (omega (arith, is)));

@@ -6,6 +6,6 @@ pub returns : goal.returns
 returns c =
     let t = c.args.text.now in
     record {
-      value = take_rest t c.length-before.result ∙ ap (λ n. drop n t) c.length-before.ensures.value;
+      value = take_rest t c.length_before.result ∙ ap (λ n. drop n t) c.length_before.ensures.value;
       bound = simp (length-take, length-drop) (omega arith);
     }

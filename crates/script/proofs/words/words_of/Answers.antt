@@ -7,7 +7,7 @@ use Rattle.script.proofs.words.words_of.Goals as goal
 pub loop-word-init : goal.loop-word-init
 loop-word-init c =
     let most = length (uncommented c.args.line.now) in
-    let e = c.before-comment-rest.ensures in
+    let e = c.before_comment-rest.ensures in
     (most, omega (arith, ap length e), (λ k. texts (c.new-words.ensures.items k) ++ words_within most (e k)))
 
 pub loop-word-preserved : goal.loop-word-preserved

@@ -11,11 +11,11 @@ use Rattle.settlement.proofs.PartyRows.{account_row, accounts_same, negated}
 use Rattle.settlement.proofs.Rows.{row_as}
 use Rattle.settlement.proofs.items.add_fines.Goals as goal
 
-pub add-each-requires : goal.add-each-requires
-add-each-requires c =
+pub add_each-requires : goal.add_each-requires
+add_each-requires c =
     let s = c.requires.sound in
     let r = held c.args.book.now in
-    let e = sym c.as-slice.ensures.value in
+    let e = sym c.as_slice.ensures.value in
     record {
       few = subst (λ (xs : List Fine). length xs ≤ 1000) e (omega (arith, s.few_fines));
       valid = subst (λ (xs : List Fine). All ValidFine xs) e s.fines;
@@ -27,8 +27,8 @@ add-each-requires c =
 pub returns : goal.returns
 returns c =
     let r = held c.args.book.now in
-    row_as c.args.table.now c.add-each.new.table c.args.code _ _
-    (λ q. (λ i. sum_over (λ x. owned_by x.account q (neg_ℤ (fine_mils x))) (c.as-slice.ensures.value i))
+    row_as c.args.table.now c.add_each.new.table c.args.code _ _
+    (λ q. (λ i. sum_over (λ x. owned_by x.account q (neg_ℤ (fine_mils x))) (c.as_slice.ensures.value i))
     ∙ account_row (λ x. x.account) (λ x. neg_ℤ (fine_mils x)) r.heading.accounts r.fines c.requires.sound.fine_accounts q
     ∙ accounts_same r.heading.accounts _ _ (λ a l h. negated (λ x. x.account) fine_mils a r.fines) q)
-    c.add-each.ensures
+    c.add_each.ensures

@@ -9,22 +9,22 @@ use Rattle.settlement.proofs.items.add_item.Goals as goal
 pub returns-in-F3 : goal.returns-in-F3
 returns-in-F3 c = λ parts.
     let r = held c.args.book.now in
-    row_as c.args.table.now c.charge-penalties.new.table c.args.code _ _ (λ q. ap (λ k. amount_of r.heading.accounts (items parts r k) q) (sym c.in-F3.is)) c.charge-penalties.ensures
+    row_as c.args.table.now c.charge_penalties.new.table c.args.code _ _ (λ q. ap (λ k. amount_of r.heading.accounts (items parts r k) q) (sym c.in-F3.is)) c.charge_penalties.ensures
 
 pub returns-in-F4 : goal.returns-in-F4
 returns-in-F4 c = λ parts.
     let r = held c.args.book.now in
-    row_as c.args.table.now c.pay-penalties.new.table c.args.code _ _ (λ q. ap (λ k. amount_of r.heading.accounts (items parts r k) q) (sym c.in-F4.is)) c.pay-penalties.ensures
+    row_as c.args.table.now c.pay_penalties.new.table c.args.code _ _ (λ q. ap (λ k. amount_of r.heading.accounts (items parts r k) q) (sym c.in-F4.is)) c.pay_penalties.ensures
 
 pub returns-in-F5 : goal.returns-in-F5
 returns-in-F5 c = λ parts.
     let r = held c.args.book.now in
-    row_as c.args.table.now c.add-fines.new.table c.args.code _ _ (λ q. ap (λ k. amount_of r.heading.accounts (items parts r k) q) (sym c.in-F5.is)) c.add-fines.ensures
+    row_as c.args.table.now c.add_fines.new.table c.args.code _ _ (λ q. ap (λ k. amount_of r.heading.accounts (items parts r k) q) (sym c.in-F5.is)) c.add_fines.ensures
 
 pub returns-in-F6 : goal.returns-in-F6
 returns-in-F6 c = λ parts.
     let r = held c.args.book.now in
-    row_as c.args.table.now c.pay-fines.new.table c.args.code _ _ (λ q. ap (λ k. amount_of r.heading.accounts (items parts r k) q) (sym c.in-F6.is)) c.pay-fines.ensures
+    row_as c.args.table.now c.pay_fines.new.table c.args.code _ _ (λ q. ap (λ k. amount_of r.heading.accounts (items parts r k) q) (sym c.in-F6.is)) c.pay_fines.ensures
 
 pub returns-in-A1 : goal.returns-in-A1
 returns-in-A1 c = λ parts.

@@ -13,8 +13,8 @@ negate-requires c = record {
   small = charged_small (held c.args.book.now) c.requires.sound c.args.charged.now c.requires.penalized;
 }
 
-pub add-listed-requires : goal.add-listed-requires
-add-listed-requires c =
+pub add_listed-requires : goal.add_listed-requires
+add_listed-requires c =
     let n : length c.negate.new.charges ≡ length c.args.charged.now = c.negate.auto.charges ∙ c.requires.places ∙ sym c.requires.penalized.long in
     record {
       few = omega (arith, n, c.requires.penalized.long, c.requires.sound.few);
@@ -33,8 +33,8 @@ returns c =
     let k : a - 1 < length c.args.charged.now = omega (arith, c.requires.penalized.long) in
     let e : a - 1 + 1 ≡ a = omega arith in
     c.negate.ensures (a - 1) k ∙ ap neg_ℤ (c.requires.penalized.each (a - 1) k ∙ ap (penalties r) e) in
-    row_as c.args.table.now c.add-listed.new.table c.args.code _ _
+    row_as c.args.table.now c.add_listed.new.table c.args.code _ _
     (λ q. (λ i. cond (leb 1 q && leb q (n i)) (get_or cs (q - 1) (pos 0)) (pos 0))
     ∙ sym (accounts_have r.heading.accounts (λ a. get_or cs (a - 1) (pos 0)) q)
     ∙ accounts_same r.heading.accounts (λ a. get_or cs (a - 1) (pos 0)) (λ a. neg_ℤ (penalties r a)) at q)
-    c.add-listed.ensures
+    c.add_listed.ensures

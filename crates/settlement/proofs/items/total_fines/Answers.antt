@@ -9,9 +9,9 @@ use Rattle.valuation.specs.Valid.{ValidFine}
 use Rattle.bounds.proofs.Bounds.{all_fines_le}
 use Rattle.settlement.proofs.items.total_fines.Goals as goal
 
-pub sum-of-requires : goal.sum-of-requires
-sum-of-requires c =
-    let e = sym c.as-slice.ensures.value in
+pub sum_of-requires : goal.sum_of-requires
+sum_of-requires c =
+    let e = sym c.as_slice.ensures.value in
     record {
       few = subst (λ (xs : List Fine). length xs ≤ 1000) e (omega (arith, c.requires.few_fines));
       valid = subst (λ (xs : List Fine). All ValidFine xs) e c.requires.fines;
@@ -20,5 +20,5 @@ sum-of-requires c =
 pub returns : goal.returns
 returns c =
     let r = held c.args.book.now in
-    let e = to_z-of_z w64 c.sum-of.result (record { sfits = c.sum-of.type-inv }) ∙ c.sum-of.ensures ∙ ap (sum_over fine_mils) c.as-slice.ensures.value in
+    let e = to_z-of_z w64 c.sum_of.result (record { sfits = c.sum_of.type-inv }) ∙ c.sum_of.ensures ∙ ap (sum_over fine_mils) c.as_slice.ensures.value in
     record { value = e; bound = rw e (all_fines_le r c.requires) }

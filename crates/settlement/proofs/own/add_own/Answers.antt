@@ -8,7 +8,7 @@ use Rattle.settlement.proofs.own.add_own.Goals as goal
 pub returns-in-F2 : goal.returns-in-F2
 returns-in-F2 c =
     let r = held c.args.book.now in
-    row_as c.args.table.now c.add-imbalance.new.table c.args.code _ _ (λ q. ap (λ k. amount_of r.heading.accounts (own r c.args.hour k) q) (sym c.in-F2.is)) c.add-imbalance.ensures
+    row_as c.args.table.now c.add_imbalance.new.table c.args.code _ _ (λ q. ap (λ k. amount_of r.heading.accounts (own r c.args.hour k) q) (sym c.in-F2.is)) c.add_imbalance.ensures
 
 pub returns-in-A2 : goal.returns-in-A2
 returns-in-A2 c =

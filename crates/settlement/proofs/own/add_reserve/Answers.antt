@@ -11,11 +11,11 @@ use Rattle.settlement.proofs.PartyRows.{account_row}
 use Rattle.settlement.proofs.Rows.{row_as}
 use Rattle.settlement.proofs.own.add_reserve.Goals as goal
 
-pub add-each-requires : goal.add-each-requires
-add-each-requires c =
+pub add_each-requires : goal.add_each-requires
+add_each-requires c =
     let s = c.requires.sound in
     let r = held c.args.book.now in
-    let e = sym c.as-slice.ensures.value in
+    let e = sym c.as_slice.ensures.value in
     record {
       few = subst (λ (xs : List Reserve). length xs ≤ 1000) e (omega (arith, s.few_reserves));
       valid = subst (λ (xs : List Reserve). All ValidReserve xs) e s.reserves;
@@ -27,7 +27,7 @@ add-each-requires c =
 pub returns : goal.returns
 returns c =
     let r = held c.args.book.now in
-    row_as c.args.table.now c.add-each.new.table c.args.code _ _
-    (λ q. (λ i. sum_over (λ x. owned_by x.account q (cond (eqb x.hour c.args.hour) (reserve_term c.args.market x) (pos 0))) (c.as-slice.ensures.value i))
+    row_as c.args.table.now c.add_each.new.table c.args.code _ _
+    (λ q. (λ i. sum_over (λ x. owned_by x.account q (cond (eqb x.hour c.args.hour) (reserve_term c.args.market x) (pos 0))) (c.as_slice.ensures.value i))
     ∙ account_row (λ x. x.account) (λ x. cond (eqb x.hour c.args.hour) (reserve_term c.args.market x) (pos 0)) r.heading.accounts r.reserves c.requires.sound.reserve_accounts q)
-    c.add-each.ensures
+    c.add_each.ensures

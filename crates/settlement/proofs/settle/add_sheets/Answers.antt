@@ -11,11 +11,11 @@ use Rattle.settlement.proofs.settle.add_sheets.Goals as goal
 pub loop-h-init : goal.loop-h-init
 loop-h-init g c = λ code q. empty_cell c.args.table.now c.requires.empty code q
 
-pub put-weights-requires : goal.put-weights-requires
-put-weights-requires g c = record { sound = c.requires.sound; places = c.loop-h.auto.purchases ∙ c.requires.weights }
+pub put_weights-requires : goal.put_weights-requires
+put_weights-requires g c = record { sound = c.requires.sound; places = c.loop-h.auto.purchases ∙ c.requires.weights }
 
-pub add-sheet-requires : goal.add-sheet-requires
-add-sheet-requires g c =
+pub add_sheet-requires : goal.add_sheet-requires
+add_sheet-requires g c =
     let r = held c.args.book.now in
     let h = c.loop-h.h in
     let f = g.R.Sharing.parts c.args.rule.now in
@@ -23,7 +23,7 @@ add-sheet-requires g c =
     record {
       sound = c.requires.sound;
       priced = c.requires.priced;
-      weighed = c.put-weights.ensures;
+      weighed = c.put_weights.ensures;
       borne = none (h + 1) (omega arith) (omega arith);
       places = c.loop-h.auto.shares ∙ c.requires.places;
       room = λ code q. rw (c.loop-h.invariant code q) (omega (arith, sheets_le f (g.met.R.Sharing.fair c.args.rule.now) r c.requires.sound h (λ k l m. none k l (omega arith)) code q));
@@ -34,7 +34,7 @@ loop-h-preserved g c = λ code q.
     let r = held c.args.book.now in
     let h = c.loop-h.h in
     let f = g.R.Sharing.parts c.args.rule.now in
-    c.add-sheet.ensures code q ∙ ap (λ z. z +ℤ sheet f r (h + 1) code q) (c.loop-h.invariant code q) ∙ sym (sheets_more (λ scope. sheet f r scope code q) h)
+    c.add_sheet.ensures code q ∙ ap (λ z. z +ℤ sheet f r (h + 1) code q) (c.loop-h.invariant code q) ∙ sym (sheets_more (λ scope. sheet f r scope code q) h)
 
 pub returns : goal.returns
 returns g c =

@@ -9,14 +9,14 @@ use Rattle.items.specs.Items.{penalty_among}
 use Rattle.bounds.proofs.Facts.{all_map}
 use Rattle.settlement.proofs.settle.charge.Goals as goal
 
-pub put-penalties-requires : goal.put-penalties-requires
-put-penalties-requires c =
+pub put_penalties-requires : goal.put_penalties-requires
+put_penalties-requires c =
     let s = c.requires.sound in
     let r = held c.args.book.now in
-    let e = sym c.as-slice.ensures.value in
+    let e = sym c.as_slice.ensures.value in
     record {
       few = subst (λ (xs : List Reserve). length xs ≤ 400) e s.few_reserves;
-      failed = subst (λ (xs : List Failure). length xs ≤ 320) (sym c.as-slice-2.ensures.value) s.few_failures;
+      failed = subst (λ (xs : List Failure). length xs ≤ 320) (sym c.as_slice-2.ensures.value) s.few_failures;
       valid = subst (λ (xs : List Reserve). All ValidReserve xs) e s.reserves;
       listed = subst (λ (xs : List Reserve). All (λ x. (1 ≤ x.account) × (x.account ≤ length c.args.sums.now)) xs) e
           (all_map (λ x. Listed r x.account) _ (λ x p. (p.0, omega (arith, p.1, c.requires.sums))) r.reserves s.reserve_accounts);
@@ -25,6 +25,6 @@ put-penalties-requires c =
 
 pub returns : goal.returns
 returns c = record {
-  long = c.put-penalties.auto.penalties ∙ c.requires.places;
-  each = λ k h. c.put-penalties.ensures k h ∙ (λ i. sum_over (penalty_among (c.as-slice.ensures.value i) (k + 1)) (c.as-slice-2.ensures.value i));
+  long = c.put_penalties.auto.penalties ∙ c.requires.places;
+  each = λ k h. c.put_penalties.ensures k h ∙ (λ i. sum_over (penalty_among (c.as_slice.ensures.value i) (k + 1)) (c.as_slice-2.ensures.value i));
 }

@@ -10,11 +10,11 @@ use Rattle.bounds.proofs.Bounds.{exchanges_le, size_small}
 use Rattle.bounds.proofs.Facts.{all_map}
 use Rattle.settlement.proofs.shared.exchange_total.Goals as goal
 
-pub sum-of-requires : goal.sum-of-requires
-sum-of-requires c =
+pub sum_of-requires : goal.sum_of-requires
+sum_of-requires c =
     let s = c.requires.sound in
     let r = held c.args.book.now in
-    let e = sym c.as-slice.ensures.value in
+    let e = sym c.as_slice.ensures.value in
     record {
       few = subst (λ (xs : List Interconnection). length xs ≤ 1000) e (omega (arith, s.few_interconnections));
       valid = subst (λ (xs : List Interconnection). All (λ x. All ValidPrice c.args.prices.now.prices.now × ValidInterconnection x) xs) e
@@ -27,6 +27,6 @@ returns c =
     let r = held c.args.book.now in
     let h = c.args.hour in
     let m = c.args.market in
-    let e = to_z-of_z w64 c.sum-of.result (record { sfits = c.sum-of.type-inv }) ∙ c.sum-of.ensures
-    ∙ (λ i. sum_over (λ x. cond (eqb x.hour h) (exchange_term (c.requires.priced i) m x) (pos 0)) (c.as-slice.ensures.value i)) in
+    let e = to_z-of_z w64 c.sum_of.result (record { sfits = c.sum_of.type-inv }) ∙ c.sum_of.ensures
+    ∙ (λ i. sum_over (λ x. cond (eqb x.hour h) (exchange_term (c.requires.priced i) m x) (pos 0)) (c.as_slice.ensures.value i)) in
     record { value = e; bound = rw e (omega (arith, exchanges_le r s m h, size_small r s h)) }

@@ -10,12 +10,12 @@ pub returns-in-Own : goal.returns-in-Own
 returns-in-Own g c =
     let r = held c.args.book.now in
     let b : basis_of c.args.code ≡ Own = sym (ap (λ x. x.basis) c.row.ensures) ∙ c.in-Own.is in
-    row_as c.args.table.now c.add-own.new.table c.args.code _ _
-    (λ q. ap (λ k. amount_of r.heading.accounts (on_basis k (g.R.Sharing.parts c.args.rule.now) r c.args.hour c.args.code) q) (sym b)) c.add-own.ensures
+    row_as c.args.table.now c.add_own.new.table c.args.code _ _
+    (λ q. ap (λ k. amount_of r.heading.accounts (on_basis k (g.R.Sharing.parts c.args.rule.now) r c.args.hour c.args.code) q) (sym b)) c.add_own.ensures
 
 pub returns-in-Purchases : goal.returns-in-Purchases
 returns-in-Purchases g c =
     let r = held c.args.book.now in
     let b : basis_of c.args.code ≡ Purchases = sym (ap (λ x. x.basis) c.row.ensures) ∙ c.in-Purchases.is in
-    row_as c.args.table.now c.add-shared.new.table c.args.code _ _
-    (λ q. ap (λ k. amount_of r.heading.accounts (on_basis k (g.R.Sharing.parts c.args.rule.now) r c.args.hour c.args.code) q) (sym b)) c.add-shared.ensures
+    row_as c.args.table.now c.add_shared.new.table c.args.code _ _
+    (λ q. ap (λ k. amount_of r.heading.accounts (on_basis k (g.R.Sharing.parts c.args.rule.now) r c.args.hour c.args.code) q) (sym b)) c.add_shared.ensures

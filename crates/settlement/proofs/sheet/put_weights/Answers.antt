@@ -7,11 +7,11 @@ use Rattle.amounts.specs.Buying.{bought_sums}
 use Rattle.bounds.proofs.Facts.{all_map}
 use Rattle.settlement.proofs.sheet.put_weights.Goals as goal
 
-pub put-purchases-requires : goal.put-purchases-requires
-put-purchases-requires c =
+pub put_purchases-requires : goal.put_purchases-requires
+put_purchases-requires c =
     let s = c.requires.sound in
     let r = held c.args.book.now in
-    let e = sym c.as-slice.ensures.value in
+    let e = sym c.as_slice.ensures.value in
     record {
       few = subst (λ (xs : List Position). length xs ≤ 1000) e s.few_positions;
       valid = subst (λ (xs : List Position). All ValidPosition xs) e s.positions;
@@ -20,4 +20,4 @@ put-purchases-requires c =
     }
 
 pub returns : goal.returns
-returns c = c.put-purchases.ensures ∙ (λ i. bought_sums c.args.hour (c.requires.places i) (c.as-slice.ensures.value i))
+returns c = c.put_purchases.ensures ∙ (λ i. bought_sums c.args.hour (c.requires.places i) (c.as_slice.ensures.value i))

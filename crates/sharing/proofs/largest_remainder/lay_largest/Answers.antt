@@ -4,13 +4,13 @@ use Rattle.sharing.specs.LargestFair.{floors_le, floors_long, remainders_long}
 use Rattle.sharing.proofs.largest_remainder.lay_largest.Goals as goal
 
 -- a floor is at most the sum of all floors, which is at most the amount
-pub give-missing-requires : goal.give-missing-requires
-give-missing-requires c =
+pub give_missing-requires : goal.give_missing-requires
+give_missing-requires c =
     let a = c.args.rate.now.amount in
     let ws = c.args.weights.now in
-    let laid = c.lay-floors-lacking.ensures in
+    let laid = c.lay_floors-lacking.ensures in
     let some : 0 < sum ws = omega (arith, c.requires.total, c.args.rate.now.some) in
     record {
       places = ap length laid.floors ∙ floors_long a ws ∙ sym (remainders_long a ws) ∙ sym (ap length laid.rests);
-      small = λ k h. omega (arith, get_or-le-sum_by (λ x. x) c.lay-floors-lacking.new.shares k 0 h, ap sum laid.floors, floors_le a ws some, c.args.rate.now.small);
+      small = λ k h. omega (arith, get_or-le-sum_by (λ x. x) c.lay_floors-lacking.new.shares k 0 h, ap sum laid.floors, floors_le a ws some, c.args.rate.now.small);
     }

@@ -11,7 +11,7 @@ loop-j-preserved c =
     let b = test c.loop-j.j in
     let more = count_more c.loop-j.j test in
     let so_far = c.loop-j.invariant.0 in
-    elim c.if-comes-before.branch [
-      | then-comes-before w ↦ (omega (arith, w.n-is, more, so_far, cond-true {A = ℕ} b 1 0 (sym c.comes-before.ensures ∙ w.if-comes-before.true)), omega (arith, w.n-is))
-      | else-comes-before w ↦ (omega (arith, w.n-is, more, so_far, cond-false {A = ℕ} b 1 0 (sym c.comes-before.ensures ∙ w.if-comes-before.false)), omega (arith, w.n-is))
+    elim c.if-comes_before.branch [
+      | then-comes-before w ↦ (omega (arith, w.n-is, more, so_far, cond-true {A = ℕ} b 1 0 (sym c.comes_before.ensures ∙ w.if-comes_before.true)), omega (arith, w.n-is))
+      | else-comes-before w ↦ (omega (arith, w.n-is, more, so_far, cond-false {A = ℕ} b 1 0 (sym c.comes_before.ensures ∙ w.if-comes_before.false)), omega (arith, w.n-is))
     ]

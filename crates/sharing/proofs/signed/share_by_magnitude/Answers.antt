@@ -8,9 +8,9 @@ use Rattle.sharing.proofs.SignedSums.{signed_answers, signed_refuses}
 use Rattle.sharing.proofs.signed.share_by_magnitude.Goals as goal
 
 -- by the law the parts add up to the amount, so none is larger
-pub lay-signed-requires : goal.lay-signed-requires
-lay-signed-requires g c =
-    let a = c.unsigned-abs.result in
+pub lay_signed-requires : goal.lay_signed-requires
+lay_signed-requires g c =
+    let a = c.unsigned_abs.result in
     let ws = c.args.weights.now in
     let room = c.args.magnitudes.now in
     let rule = c.args.rule.now in
@@ -26,17 +26,17 @@ lay-signed-requires g c =
 pub returns-in-Err : goal.returns-in-Err
 returns-in-Err g c =
     let z = c.args.amount in
-    let abs : c.unsigned-abs.result ≡ nat_abs z = c.unsigned-abs.ensures.value ∙ ap nat_abs (to_z-of_z w64 z c.ranges.amount) in
-    let both = signed_refuses (g.R.Sharing.parts c.args.rule.now) z c.args.weights.now c.args.shares.now c.unsigned-abs.result (length c.args.magnitudes.now) c.in-Err.fault abs c.requires c.in-Err.ensures.answer in
+    let abs : c.unsigned_abs.result ≡ nat_abs z = c.unsigned_abs.ensures.value ∙ ap nat_abs (to_z-of_z w64 z c.ranges.amount) in
+    let both = signed_refuses (g.R.Sharing.parts c.args.rule.now) z c.args.weights.now c.args.shares.now c.unsigned_abs.result (length c.args.magnitudes.now) c.in-Err.fault abs c.requires c.in-Err.ensures.answer in
     record { answer = both.0; after = both.1 }
 
 pub returns-in-Ok : goal.returns-in-Ok
 returns-in-Ok g c =
     let z = c.args.amount in
     let fits = c.ranges.amount in
-    let abs : c.unsigned-abs.result ≡ nat_abs z = c.unsigned-abs.ensures.value ∙ ap nat_abs (to_z-of_z w64 z fits) in
-    let laid : c.lay-signed.new.shares ≡ map (with_sign_of z) c.share.new.shares =
-    c.lay-signed.ensures ∙ ap (λ x. map (with_sign_of x) c.share.new.shares) (to_z-of_z w64 z fits) in
-    let both = signed_answers (g.R.Sharing.parts c.args.rule.now) z c.args.weights.now c.args.shares.now c.unsigned-abs.result c.args.magnitudes.now c.share.new.shares c.lay-signed.new.shares
+    let abs : c.unsigned_abs.result ≡ nat_abs z = c.unsigned_abs.ensures.value ∙ ap nat_abs (to_z-of_z w64 z fits) in
+    let laid : c.lay_signed.new.shares ≡ map (with_sign_of z) c.share.new.shares =
+    c.lay_signed.ensures ∙ ap (λ x. map (with_sign_of x) c.share.new.shares) (to_z-of_z w64 z fits) in
+    let both = signed_answers (g.R.Sharing.parts c.args.rule.now) z c.args.weights.now c.args.shares.now c.unsigned_abs.result c.args.magnitudes.now c.share.new.shares c.lay_signed.new.shares
     abs c.requires c.in-Ok.ensures.answer c.in-Ok.ensures.after laid in
     record { answer = both.0; after = both.1 }

@@ -12,10 +12,10 @@ returns g c =
     let ws = c.args.weights.now in
     let before = c.args.shares.now in
     let rule = c.args.rule.now in
-    let r = c.share-by-magnitude.result in
-    let after = c.share-by-magnitude.new.shares in
-    let answer = simp to_z-of_z at c.share-by-magnitude.ensures.answer in
-    let left = simp to_z-of_z at c.share-by-magnitude.ensures.after in
+    let r = c.share_by_magnitude.result in
+    let after = c.share_by_magnitude.new.shares in
+    let answer = simp to_z-of_z at c.share_by_magnitude.ensures.answer in
+    let left = simp to_z-of_z at c.share_by_magnitude.ensures.after in
     record {
       answer = answer;
       after = left;

@@ -7,7 +7,7 @@ use Rattle.statement.proofs.issued.count_in.Goals as goal
 pub loop-note-preserved : goal.loop-note-preserved
 loop-note-preserved c =
     let more = length_of_issue_more c.args.issue c.args.notes.now c.loop-note.note-index c.loop-note-test.true in
-    (omega (arith, more, c.loop-note.invariant.0, c.one-in-count.ensures.value), omega (arith, c.loop-note.invariant.1, c.one-in-count.ensures.bound))
+    (omega (arith, more, c.loop-note.invariant.0, c.one_in-count.ensures.value), omega (arith, c.loop-note.invariant.1, c.one_in-count.ensures.bound))
 
 pub returns : goal.returns
 returns c = c.loop-note.invariant.0 ∙ ap (λ ns. length (of_issue c.args.issue ns)) (take_all c.loop-note.note-index c.args.notes.now c.loop-note-test.false)

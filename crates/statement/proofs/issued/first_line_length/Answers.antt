@@ -10,6 +10,6 @@ returns c =
     let h = c.args.heading.now in
     let same : length (words (c.from.result ∷ c.from-2.result ∷ [])) ≡ length (words (h.hours ∷ c.args.issue ∷ [])) = λ i. length (words (c.from.ensures i ∷ c.from-2.ensures i ∷ [])) in
     record {
-      value = omega (arith, length_line (day_name h) (h.hours ∷ c.args.issue ∷ []), same, c.words-length.ensures.value);
-      bound = omega (arith, c.words-length.ensures.bound);
+      value = omega (arith, length_line (day_name h) (h.hours ∷ c.args.issue ∷ []), same, c.words_length.ensures.value);
+      bound = omega (arith, c.words_length.ensures.bound);
     }

@@ -6,6 +6,6 @@ use Rattle.statement.proofs.issued.last_line_length.Goals as goal
 pub returns : goal.returns
 unfolding last_line
 returns c = record {
-  value = omega (arith, length_line (codes "END") (c.args.count ∷ []), c.words-length.ensures.value);
-  bound = omega (arith, c.words-length.ensures.bound);
+  value = omega (arith, length_line (codes "END") (c.args.count ∷ []), c.words_length.ensures.value);
+  bound = omega (arith, c.words_length.ensures.bound);
 }

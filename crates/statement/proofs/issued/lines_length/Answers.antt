@@ -9,7 +9,7 @@ use Rattle.statement.proofs.issued.lines_length.Goals as goal
 pub loop-note-preserved : goal.loop-note-preserved
 loop-note-preserved c =
     let more = length_pieces_more (line_in c.args.issue) c.args.notes.now no_note c.loop-note.note-index c.loop-note-test.true in
-    (omega (arith, more, c.loop-note.invariant.0, c.length-in-total.ensures.value), omega (arith, c.loop-note.invariant.1, c.length-in-total.ensures.bound))
+    (omega (arith, more, c.loop-note.invariant.0, c.length_in-total.ensures.value), omega (arith, c.loop-note.invariant.1, c.length_in-total.ensures.bound))
 
 pub returns : goal.returns
 returns c = record {

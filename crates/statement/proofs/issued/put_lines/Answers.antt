@@ -10,8 +10,8 @@ use Rattle.statement.proofs.issued.put_lines.Goals as goal
 pub loop-note-init : goal.loop-note-init
 loop-note-init c = none c.args.buffer.now c.args.at (omega arith)
 
-pub put-in-end-requires : goal.put-in-end-requires
-put-in-end-requires c =
+pub put_in-end-requires : goal.put_in-end-requires
+put_in-end-requires c =
     let f = line_in c.args.issue in
     let ns = c.args.notes.now in
     let i = c.loop-note.note-index in
@@ -22,7 +22,7 @@ loop-note-preserved c =
     let f = line_in c.args.issue in
     let ns = c.args.notes.now in
     let i = c.loop-note.note-index in
-    rw (pieces_more f ns no_note i c.loop-note-test.true) (after (flat_map f (take i ns)) (f (get_or ns i no_note)) c.loop-note.invariant c.put-in-end.ensures)
+    rw (pieces_more f ns no_note i c.loop-note-test.true) (after (flat_map f (take i ns)) (f (get_or ns i no_note)) c.loop-note.invariant c.put_in-end.ensures)
 
 pub returns : goal.returns
 returns c =

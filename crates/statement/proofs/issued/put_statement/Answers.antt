@@ -5,5 +5,5 @@ use Rattle.statement.proofs.issued.put_statement.Goals as goal
 pub returns : goal.returns
 returns c =
     let text = statement_text c.args.heading.now c.args.notes.now c.args.issue in
-    let both = fits text c.args.buffer.now c.put-text.new.buffer c.put-text.result c.put-text.ensures in
+    let both = fits text c.args.buffer.now c.put_text.new.buffer c.put_text.result c.put_text.ensures in
     record { answer = both.0; after = both.1 }

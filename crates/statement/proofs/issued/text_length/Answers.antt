@@ -5,4 +5,4 @@ use Rattle.statement.proofs.issued.text_length.Goals as goal
 
 pub returns : goal.returns
 returns c =
-    omega (arith, length_text c.args.heading.now c.args.notes.now c.args.issue, c.first-line-length.ensures.value, c.lines-length.ensures.value, c.last-line-length.ensures.value, ap (λ k. length (last_line k)) c.count-in.ensures)
+    omega (arith, length_text c.args.heading.now c.args.notes.now c.args.issue, c.first_line_length.ensures.value, c.lines_length.ensures.value, c.last_line_length.ensures.value, ap (λ k. length (last_line k)) c.count_in.ensures)

@@ -7,10 +7,10 @@ use Rattle.statement.proofs.line.amount_line_length.Goals as goal
 
 pub returns : goal.returns
 returns c =
-    let s = c.side-and-magnitude-magnitude.ensures ∙ ap side_and_magnitude (to_z-of_z w64 c.args.amount c.ranges.amount) in
+    let s = c.side_and_magnitude-magnitude.ensures ∙ ap side_and_magnitude (to_z-of_z w64 c.args.amount c.ranges.amount) in
     let m = ap (λ (a : Side × ℕ). length (decimal a.1)) s in
     let p = ap (λ k. length (decimal k)) c.from.ensures in
     record {
-      value = λ code. omega (arith, length_amount_line code c.args.party c.args.amount, m, p, c.decimal-length.ensures.value, c.decimal-length-2.ensures.value);
-      bound = omega (arith, c.decimal-length.ensures.bound, c.decimal-length-2.ensures.bound);
+      value = λ code. omega (arith, length_amount_line code c.args.party c.args.amount, m, p, c.decimal_length.ensures.value, c.decimal_length-2.ensures.value);
+      bound = omega (arith, c.decimal_length.ensures.bound, c.decimal_length-2.ensures.bound);
     }

@@ -4,7 +4,7 @@ use Rattle.text.proofs.write.put_bytes.Goals as goal
 
 pub returns : goal.returns
 returns c = record {
-  is = written_mid c.args.buffer.now c.args.at _ c.args.bytes.now c.copy-from-slice.new.self c.copy-from-slice.ensures.after (omega arith);
+  is = written_mid c.args.buffer.now c.args.at _ c.args.bytes.now c.copy_from_slice.new.self c.copy_from_slice.ensures.after (omega arith);
   next = refl;
   room = c.requires;
 }

@@ -8,8 +8,8 @@ use Rattle.text.proofs.write.put_words.Goals as goal
 pub loop-n-init : goal.loop-n-init
 loop-n-init c = none c.args.buffer.now c.args.at (omega arith)
 
-pub put-word-end-requires : goal.put-word-end-requires
-put-word-end-requires c =
+pub put_word-end-requires : goal.put_word-end-requires
+put_word-end-requires c =
     let ns = c.args.numbers.now in
     let i = c.loop-n.n-index in
     omega (arith, c.loop-n.invariant.next, length_pieces_more word ns 0 i c.loop-n-test.true, pieces_front word (i + 1) ns)
@@ -18,7 +18,7 @@ pub loop-n-preserved : goal.loop-n-preserved
 loop-n-preserved c =
     let ns = c.args.numbers.now in
     let i = c.loop-n.n-index in
-    rw (pieces_more word ns 0 i c.loop-n-test.true) (after (words (take i ns)) (word (get_or ns i 0)) c.loop-n.invariant c.put-word-end.ensures)
+    rw (pieces_more word ns 0 i c.loop-n-test.true) (after (words (take i ns)) (word (get_or ns i 0)) c.loop-n.invariant c.put_word-end.ensures)
 
 pub returns : goal.returns
 returns c =

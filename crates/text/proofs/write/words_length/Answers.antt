@@ -7,7 +7,7 @@ use Rattle.text.proofs.write.words_length.Goals as goal
 pub loop-n-preserved : goal.loop-n-preserved
 loop-n-preserved c =
     let more = length_pieces_more word c.args.numbers.now 0 c.loop-n.n-index c.loop-n-test.true in
-    (omega (arith, more, c.loop-n.invariant.0, c.decimal-length.ensures.value), omega (arith, c.loop-n.invariant.1, c.decimal-length.ensures.bound))
+    (omega (arith, more, c.loop-n.invariant.0, c.decimal_length.ensures.value), omega (arith, c.loop-n.invariant.1, c.decimal_length.ensures.bound))
 
 pub returns : goal.returns
 returns c = record {
