@@ -1,4 +1,6 @@
 // Loads good and bad files into one book, and prints what comes of each.
+#![tactic(auto)]
+
 use book::book::Book;
 use faults::fault::Fault;
 use loading::load::load;

@@ -1,4 +1,6 @@
 // The book of a day: its heading and its records, the calls that enter them, and its soundness.
+#![tactic(auto)]
+
 pub mod book;
 pub mod counts;
 pub mod enter;

@@ -1,4 +1,6 @@
 // The ten calls on a day: its states, its memory, and the order of refusals of each call.
+#![tactic(auto)]
+
 pub mod correcting;
 pub mod entering;
 pub mod issue_number;

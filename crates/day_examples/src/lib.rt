@@ -1,4 +1,6 @@
 // The calls on a day, and histories of them, by example.
+#![tactic(auto)]
+
 #[cfg(test)]
 mod damaged;
 #[cfg(test)]

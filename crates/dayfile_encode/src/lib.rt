@@ -1,5 +1,7 @@
 // The records of the day file, written as bytes. Each function answers the bytes of its record, and ensures that decoding
 // them gives the record back.
+#![tactic(auto)]
+
 ghost use Rattle.std.specs.Prelude.{◌≡◌, Ok};
 ghost use Rattle.decoding.specs.Decoded.{decoded_end, decoded_heading, decoded_record};
 ghost use Rattle.decoding.specs.Fields.{eight_bytes, four_bytes, signed_four_bytes, two_bytes};

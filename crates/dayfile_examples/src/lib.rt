@@ -1,4 +1,6 @@
 // Examples of the day file, run as tests: which records are taken, and how a file is read.
+#![tactic(auto)]
+
 #[cfg(test)]
 mod tests {
     use cutting::reader::Reader;

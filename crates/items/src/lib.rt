@@ -1,2 +1,4 @@
 // The items of a day: penalties and fines.
+#![tactic(auto)]
+
 pub mod penalties;

@@ -1,4 +1,6 @@
 // Ledgers, issues and statements by example.
+#![tactic(auto)]
+
 #[cfg(test)]
 mod tests {
     use codes::code::Code;

@@ -1,5 +1,7 @@
 // Day files at the limits of their fields. Each line of standard input is a name and a file in hexadecimal digits, `-` for no
 // bytes; for each it prints the name, and then what is printed of the file.
+#![tactic(auto)]
+
 use anyhow::anyhow;
 use book::book::Book;
 use codes::table::Table;

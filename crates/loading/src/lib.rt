@@ -1,3 +1,5 @@
 // Loading a day file into a book.
+#![tactic(auto)]
+
 pub mod load;
 pub mod turn;

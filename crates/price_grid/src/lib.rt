@@ -1,2 +1,4 @@
 // The prices of a day by node and hour.
+#![tactic(auto)]
+
 pub mod grid;

@@ -1,4 +1,6 @@
 // Runs a script of calls from standard input, and prints what each of them answered.
+#![tactic(auto)]
+
 mod answers;
 mod held;
 mod memory;

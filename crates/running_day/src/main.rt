@@ -1,4 +1,6 @@
 // Reads a day file from standard input, and prints the statement of its first issue under the running rule, or its refusal.
+#![tactic(auto)]
+
 use book::book::Book;
 use codes::table::Table;
 use day_text::print::{LEDGER_ROOM, TEXT_ROOM};

@@ -1,4 +1,6 @@
 // Scripts of calls: their lines, the words of a line, what a line asks for, and the text of a sheet.
+#![tactic(auto)]
+
 pub mod command;
 pub mod decimal;
 pub mod digits;

@@ -1,4 +1,6 @@
 // The sheet of an hour and the table of a day, under any sharing rule.
+#![tactic(auto)]
+
 mod adding;
 mod items;
 mod own;

@@ -1,4 +1,6 @@
 // What holds of every sheet and of every settled day.
+#![tactic(auto)]
+
 ghost use Rattle.settlement_laws.specs.Laws.{CellsAreSmall, DaysBalance, PartsAreNear, SharesAreWhole, SheetsBalance};
 
 // Every sheet adds up to zero, its parts add up to what is shared, and each is less than one mil from its proportion.

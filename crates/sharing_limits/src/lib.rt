@@ -1,4 +1,6 @@
 // The rules at their limits, by example.
+#![tactic(auto)]
+
 #[cfg(test)]
 mod tests {
     use faults::fault::Fault;

@@ -1,4 +1,6 @@
 // The text of an issue's statement.
+#![tactic(auto)]
+
 pub mod issued;
 pub mod line;
 pub mod side;

@@ -1,4 +1,6 @@
 // Examples worked by hand, proved of the definitions alone.
+#![tactic(auto)]
+
 ghost use Rattle.worked_days.specs.Worked.{ExamplesHold};
 
 // Every example of the common table is what the definitions say.
