@@ -32,6 +32,21 @@ def body(text, name, owner):
     return out
 
 
+WORDS = [
+    (re.compile(r"(?<![\w])overflow-(add|sub|mul|neg|div|rem|shl|shr|cast)(?=-)"), r"overflow_\1"),
+    (re.compile(r"(?<![A-Za-z0-9_])in-(ok|err|some|none)(?![A-Za-z0-9_])"), r"in_\1"),
+    (re.compile(r"(?<![A-Za-z0-9_])(struct|slice|shared)-known"), r"\1_known"),
+    (re.compile("\u00b7(?=[0-9])"), "-"),
+]
+
+
+def worded(line):
+    """What the toolchain's own words became."""
+    for pattern, to in WORDS:
+        line = pattern.sub(to, line)
+    return line
+
+
 def made(token, words):
     pieces = token.split("-")
     out, i = [], 0
@@ -75,13 +90,13 @@ def main(argv):
                 if not source:
                     print("no source:", at)
                     continue
-                words = {w for w in re.findall(r"[A-Za-z]\w*", body(read(source), fn, parts[:-1])) if "_" in w} | {fn}
+                words = {w for w in re.findall(r"[A-Za-z]\w*", body(read(source), fn, parts[:-1])) if "_" in w} | {fn, "from_residual", "into_iter", "from_output", "as_slice", "as_mut_slice", "try_from"}
                 p = os.path.join(at, f)
                 text = read(p)
                 imported = set()
-                for m in re.finditer(r"^use [^\n]*\{([^}]*)\}", text, re.M):
+                for m in re.finditer(r"^use (?![^\n]*\.Goals\.)[^\n]*\{([^}]*)\}", text, re.M):
                     imported |= {x.strip() for x in m.group(1).split(",")}
-                new = "\n".join(l if l.startswith(("use ", "--")) else TOKEN.sub(lambda m: m.group(0) if "-" not in m.group(0) or m.group(0) in imported else made(m.group(0), words), l) for l in text.split("\n"))
+                new = "\n".join(l if l.startswith("--") or l.startswith("use ") and ".Goals.{" not in l else TOKEN.sub(lambda m: m.group(0) if "-" not in m.group(0) or m.group(0) in imported else made(m.group(0), words), worded(l)) for l in text.split("\n"))
                 # arms of a match, imported from the goals
                 if new != text:
                     with open(p, "w", encoding="utf-8") as out:

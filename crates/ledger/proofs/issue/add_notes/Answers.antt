@@ -13,8 +13,8 @@ returns-then-not-has_room c =
 pub put_notes-end-requires : goal.put_notes-end-requires
 put_notes-end-requires c = omega (arith, c.count_notes.ensures c.args.issue, leb-true _ _ (sym c.if-not-has_room.ensures))
 
-pub overflow-sub-result : goal.overflow-sub-result
-overflow-sub-result c = omega (arith, c.put_notes-end.ensures.next)
+pub overflow_sub-result : goal.overflow_sub-result
+overflow_sub-result c = omega (arith, c.put_notes-end.ensures.next)
 
 pub returns : goal.returns
 returns c =

@@ -14,7 +14,7 @@ pub loop-word-preserved : goal.loop-word-preserved
 loop-word-preserved c =
     let inv = c.loop-word.invariant in
     let cut = c.in-Some.ensures in
-    let pushed = chosen _ _ _ _ c.push.ensures.items (ap is_ok c.in-ok-push.was) in (
+    let pushed = chosen _ _ _ _ c.push.ensures.items (ap is_ok c.in_ok-push.was) in (
       inv.0 - 1,
       omega (arith, inv.1, cut.3),
       subst (λ l. texts l ++ words_within (inv.0 - 1) c.in-Some.after.now ≡ line_words c.args.line.now) (sym pushed)

@@ -5,8 +5,8 @@ use Rattle.codes.specs.Sums.{sum_over}
 use Rattle.amounts.proofs.Adding.{sum_more}
 use Rattle.settlement.proofs.items.total_of.Goals as goal
 
-pub overflow-add-total : goal.overflow-add-total
-overflow-add-total c = omega (arith, ints, c.loop-amount.invariant.1, c.requires.few, c.requires.small c.loop-amount.amount-index (omega arith))
+pub overflow_add-total : goal.overflow_add-total
+overflow_add-total c = omega (arith, ints, c.loop-amount.invariant.1, c.requires.few, c.requires.small c.loop-amount.amount-index (omega arith))
 
 pub loop-amount-preserved : goal.loop-amount-preserved
 loop-amount-preserved c =

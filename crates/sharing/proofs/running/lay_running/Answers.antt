@@ -6,8 +6,8 @@ use Rattle.sharing.specs.Running.{due}
 use Rattle.sharing.specs.RunningFair.{part, rising}
 use Rattle.sharing.proofs.running.lay_running.Goals as goal
 
-pub overflow-add-reached : goal.overflow-add-reached
-overflow-add-reached c =
+pub overflow_add-reached : goal.overflow_add-reached
+overflow_add-reached c =
     let ws = c.args.weights.now in
     let more = sum_by_more (λ x. x) ws c.loop-i.i 0 c.loop-i-test.true in
     omega (arith, c.args.rate.now.light, c.requires.total, c.loop-i.invariant.0, more, sum_by-take-le (λ x. x) ws (c.loop-i.i + 1))
@@ -27,8 +27,8 @@ now_due c =
     let reached : c.loop-i.reached + get_or ws i 0 ≡ sum (take (i + 1) ws) = omega (arith, sum_by_more (λ x. x) ws i 0 c.loop-i-test.true, c.loop-i.invariant.0) in
     c.portion-after.ensures.floor ∙ ap (λ n. a * n / c.args.rate.now.total) reached ∙ ap (λ n. a * sum (take (i + 1) ws) / n) c.requires.total
 
-pub overflow-sub-shares : goal.overflow-sub-shares
-overflow-sub-shares c =
+pub overflow_sub-shares : goal.overflow_sub-shares
+overflow_sub-shares c =
     let some : 0 < sum c.args.weights.now = omega (arith, c.requires.total, c.args.rate.now.some) in
     omega (arith, now_due c, c.loop-i.invariant.1, rising c.args.rate.now.amount c.args.weights.now c.loop-i.i some c.loop-i-test.true)
 

@@ -6,8 +6,8 @@ use Rattle.valuation.proofs.terms.product.Goals as goal
 small : (c : goal.Start) → nat_abs (c.args.price *ℤ c.args.kwh) ≤ 10000000 * nat_abs c.args.kwh
 small c = product_le 10000000 (nat_abs c.args.kwh) c.args.price c.args.kwh c.requires.price (omega arith)
 
-pub overflow-mul-result : goal.overflow-mul-result
-overflow-mul-result c =
+pub overflow_mul-result : goal.overflow_mul-result
+overflow_mul-result c =
     let p = c.ranges.price in
     let k = c.ranges.kwh in
     simp to_z-of_z (fits_w64 (c.args.price *ℤ c.args.kwh) (omega (arith, small c, c.requires.kwh)))

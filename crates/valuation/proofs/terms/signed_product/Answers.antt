@@ -14,14 +14,14 @@ factors c =
     let m : SFits w64 (c.sign.result *ℤ c.args.price) = fits_w64 (c.sign.result *ℤ c.args.price) (omega (arith, product_le 1 10000000 c.sign.result c.args.price c.sign.ensures.bound c.requires.price)) in
     simp to_z-of_z
 
-pub overflow-mul-result : goal.overflow-mul-result
-overflow-mul-result c =
+pub overflow_mul-result : goal.overflow_mul-result
+overflow_mul-result c =
     let s : SFits w64 c.sign.result = fits_w64 c.sign.result (omega (arith, c.sign.ensures.bound)) in
     let p : SFits w64 c.args.price = c.ranges.price in
     simp to_z-of_z (fits_w64 (c.sign.result *ℤ c.args.price) (omega (arith, product_le 1 10000000 c.sign.result c.args.price c.sign.ensures.bound c.requires.price)))
 
-pub overflow-mul-result-2 : goal.overflow-mul-result-2
-overflow-mul-result-2 c = rw (factors c) (fits_w64 (c.sign.result *ℤ c.args.price *ℤ c.args.kwh) (omega (arith, small c)))
+pub overflow_mul-result-2 : goal.overflow_mul-result-2
+overflow_mul-result-2 c = rw (factors c) (fits_w64 (c.sign.result *ℤ c.args.price *ℤ c.args.kwh) (omega (arith, small c)))
 
 pub returns : goal.returns
 returns c =

@@ -10,20 +10,20 @@ floor rate weight quotient e =
     ∙ ap (λ n. rate.amount / rate.total * weight + n) (e ∙ ap (λ n. n * weight / rate.total) rate.rest_is)
     ∙ exact_quotient rate.amount rate.total weight rate.some
 
-pub overflow-mul-self : goal.overflow-mul-self
-overflow-mul-self c =
+pub overflow_mul-self : goal.overflow_mul-self
+overflow_mul-self c =
     let rate = c.args.self.now in
     let w = c.args.weight in
     omega (arith, ap (λ n. n * w) rate.rest_is, rest_fits most_weight rate.amount rate.total w rate.some c.requires rate.light)
 
-pub overflow-mul-result : goal.overflow-mul-result
-overflow-mul-result c =
+pub overflow_mul-result : goal.overflow_mul-result
+overflow_mul-result c =
     let rate = c.args.self.now in
     let w = c.args.weight in
     omega (arith, ap (λ n. n * w) rate.each_is, each_fits rate.amount rate.total w c.requires, rate.small)
 
-pub overflow-add-result : goal.overflow-add-result
-overflow-add-result c =
+pub overflow_add-result : goal.overflow_add-result
+overflow_add-result c =
     let rate = c.args.self.now in
     let w = c.args.weight in
     omega (arith, floor rate w c.divide-divided.result.quotient c.divide-divided.ensures.quotient, portion_le rate.amount rate.total w rate.some c.requires, rate.small)

@@ -6,10 +6,10 @@ use Rattle.sharing.specs.Admitted.{admitted_parts, answers, facts, ok_of, refuse
 use Rattle.sharing.specs.RunningFair.{running_fair}
 use Rattle.sharing.proofs.running.RunningSharing.share.Goals as goal
 
-pub returns-in-err-total : goal.returns-in-err-total
-returns-in-err-total c =
-    let p = err_from_is_err_and c.from-residual.result c.from-residual.ensures.1 in
-    let both = refuses running c.args.amount c.args.weights.now c.args.shares.now c.in-err-total.field-0.0 c.in-err-total.ensures in
+pub returns-in_err-total : goal.returns-in_err-total
+returns-in_err-total c =
+    let p = err_from_is_err_and c.from_residual.result c.from_residual.ensures.1 in
+    let both = refuses running c.args.amount c.args.weights.now c.args.shares.now c.in_err-total.field-0.0 c.in_err-total.ensures in
     rw (p.1, p.2) record { answer = both.0; after = both.1 }
 
 pub returns-then-total-eq0 : goal.returns-then-total-eq0
@@ -17,7 +17,7 @@ returns-then-total-eq0 c =
     let a = c.args.amount in
     let ws = c.args.weights.now in
     let before = c.args.shares.now in
-    let p = ok_of (admitted a ws (length before)) (sum ws) c.in-ok-total.total not_shareable c.in-ok-total.ensures in
+    let p = ok_of (admitted a ws (length before)) (sum ws) c.in_ok-total.total not_shareable c.in_ok-total.ensures in
     let q = admitted_parts a ws (length before) p.0 in
     let z : sum ws ≡ 0 = sym p.1 ∙ c.if-total-eq0.true in
     let long : length c.clear.new.shares ≡ length ws = c.clear.auto.shares ∙ q.0 in
