@@ -57,7 +57,7 @@ impl Priced for Interconnection {
 
 // The place of the first of these whose node and hour have no price.
 fn first_unpriced_among<T: Priced>(prices: &[Price], rows: &[T]) -> Option<Place>
-    ensures { result ≡ first_unpriced_among place prices.now rows.now }
+    ensures { result ≡ first_unpriced_among T.place prices.now rows.now }
 {
     for row in rows {
         let place = row.place();

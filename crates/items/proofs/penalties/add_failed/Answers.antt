@@ -36,7 +36,7 @@ loop-x-preserved c = λ k h.
     let xs = c.args.reserves.now in
     let i = c.loop-x.x-index in
     let x = get_or xs i no_reserve in
-    let z = to_z-of_z w64 c.failing_term.result (record { sfits = c.failing_term.type-inv }) in
+    let z = to_z-of_z w64 c.failing_term.result (record { sfits = c.failing_term.type_inv }) in
     let was = c.loop-x.invariant k (omega (arith, h, c.add_to.auto.sums)) in
     let more = sum_more (λ x. owned_by x.account (k + 1) (failing c.args.failure x)) xs i no_reserve (omega arith) in
     let grew : get_or c.add_to.new.sums k (pos 0) ≡ get_or c.loop-x.sums k (pos 0) +ℤ owned_by x.account (k + 1) c.failing_term.result =

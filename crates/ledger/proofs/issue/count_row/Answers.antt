@@ -15,7 +15,7 @@ loop-party-preserved c =
     let ps = c.args.parties.now in
     let i = c.loop-party.party-index in (
       λ number.
-          count_step number f ps c.args.code i c.loop-party-test.true _ (to_z-of_z w64 c.amount.result (record { sfits = c.amount.type-inv }) ∙ c.amount.ensures) c.loop-party.count c.count_for-count.result
+          count_step number f ps c.args.code i c.loop-party-test.true _ (to_z-of_z w64 c.amount.result (record { sfits = c.amount.type_inv }) ∙ c.amount.ensures) c.loop-party.count c.count_for-count.result
           (c.loop-party.invariant.0 number) (c.count_for-count.ensures.value number c.args.code (get_or ps i 0)),
       omega (arith, c.loop-party.invariant.1, c.count_for-count.ensures.bound),
     )

@@ -16,13 +16,13 @@ loop-party-init c =
 pub put_note-end-requires : goal.put_note-end-requires
 put_note-end-requires c =
     room_step c.args.issue (cell c.args.rest.now) c.args.parties.now c.args.code c.loop-party.party-index c.loop-party-test.true _
-    (to_z-of_z w64 c.amount.result (record { sfits = c.amount.type-inv }) ∙ c.amount.ensures) c.args.ledger.now c.loop-party.ledger c.args.at c.loop-party.end
+    (to_z-of_z w64 c.amount.result (record { sfits = c.amount.type_inv }) ∙ c.amount.ensures) c.args.ledger.now c.loop-party.ledger c.args.at c.loop-party.end
     c.loop-party.invariant c.requires c.loop-party.auto.ledger
 
 pub loop-party-preserved : goal.loop-party-preserved
 loop-party-preserved c =
     wrote_step c.args.issue (cell c.args.rest.now) c.args.parties.now c.args.code c.loop-party.party-index c.loop-party-test.true _
-    (to_z-of_z w64 c.amount.result (record { sfits = c.amount.type-inv }) ∙ c.amount.ensures) c.args.ledger.now c.loop-party.ledger c.put_note-end.new.ledger c.args.at
+    (to_z-of_z w64 c.amount.result (record { sfits = c.amount.type_inv }) ∙ c.amount.ensures) c.args.ledger.now c.loop-party.ledger c.put_note-end.new.ledger c.args.at
     c.loop-party.end c.put_note-end.result c.loop-party.invariant c.put_note-end.ensures
 
 pub returns : goal.returns

@@ -15,8 +15,8 @@ returns-in-Some c =
     record {
       each =
           off c.args.rest.now c.put.new.self n c.in-Some.code (number_of n.code c.in-Some.code c.in-Some.ensures) _
-          (to_z-of_z w64 c.less-left.result (record { sfits = c.less-left.type-inv }) ∙ c.less-left.ensures) (codes_known n c.requires.coded).1 c.put.ensures;
+          (to_z-of_z w64 c.less-left.result (record { sfits = c.less-left.type_inv }) ∙ c.less-left.ensures) (codes_known n c.requires.coded).1 c.put.ensures;
     }
 
-pub returns-in-default : goal.returns-in-default
-returns-in-default c = absurd (false≢true (no_code c.args.note.now c.requires.coded c.in-default.ensures))
+pub returns-in_default : goal.returns-in_default
+returns-in_default c = absurd (false≢true (no_code c.args.note.now c.requires.coded c.in_default.ensures))

@@ -22,4 +22,4 @@ loop-word-preserved c =
     )
 
 pub returns : goal.returns
-returns c = no_more c.loop-word.invariant.0 (vec_items c.loop-word.words) c.loop-word.rest.now (line_words c.args.line.now) c.in-default.ensures c.loop-word.invariant.2
+returns c = no_more c.loop-word.invariant.0 (vec_items c.loop-word.words) c.loop-word.rest.now (line_words c.args.line.now) c.in_default.ensures c.loop-word.invariant.2

@@ -41,7 +41,7 @@ loop-x-preserved g c =
     let party = g.P.Payee.party c.args.payee.now in
     let adds = g.T.Term.adds c.args.term.now in
     let d = c.term.result in
-    let fits = to_z-of_z w64 d (record { sfits = c.term.type-inv }) in
+    let fits = to_z-of_z w64 d (record { sfits = c.term.type_inv }) in
     let step : (q : ℕ) → sum_over (λ x. owned_by (party x) q (adds x)) (take (i + 1) xs) ≡ sum_over (λ x. owned_by (party x) q (adds x)) (take i xs) +ℤ owned_by c.payee.result q d =
     λ q. sum_more (λ x. owned_by (party x) q (adds x)) xs i x (omega arith)
     ∙ ap (λ z. sum_over (λ x. owned_by (party x) q (adds x)) (take i xs) +ℤ z)

@@ -13,7 +13,7 @@ add-requires c = record { known = refl; before = omega (arith, c.requires.room 5
 pub returns : goal.returns
 returns c =
     let r = held c.args.book.now in
-    let e = to_z-of_z w64 c.total_fines.result (record { sfits = c.total_fines.type-inv }) ∙ c.total_fines.ensures.value in
+    let e = to_z-of_z w64 c.total_fines.result (record { sfits = c.total_fines.type_inv }) ∙ c.total_fines.ensures.value in
     row_as c.args.table.now c.add.new.table c.args.code _ _
     (λ q. ap (owned_by 52 q) e ∙ service_row r.heading.accounts _ c.requires.sound.few q)
     (row_one c.args.table.now c.add.new.table c.args.code 52 _ c.add.ensures)

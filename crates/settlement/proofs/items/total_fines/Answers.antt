@@ -20,5 +20,5 @@ sum_of-requires c =
 pub returns : goal.returns
 returns c =
     let r = held c.args.book.now in
-    let e = to_z-of_z w64 c.sum_of.result (record { sfits = c.sum_of.type-inv }) ∙ c.sum_of.ensures ∙ ap (sum_over fine_mils) c.as_slice.ensures.value in
+    let e = to_z-of_z w64 c.sum_of.result (record { sfits = c.sum_of.type_inv }) ∙ c.sum_of.ensures ∙ ap (sum_over fine_mils) c.as_slice.ensures.value in
     record { value = e; bound = rw e (all_fines_le r c.requires) }

@@ -19,7 +19,7 @@ share_out-requires g c =
     let r = held c.args.book.now in
     let h = c.args.hour in
     let code = c.args.code in
-    let e : to_z w64 (of_z w64 c.shared_amount.result) ≡ shared r h code = to_z-of_z w64 c.shared_amount.result (record { sfits = c.shared_amount.type-inv }) ∙ c.shared_amount.ensures in
+    let e : to_z w64 (of_z w64 c.shared_amount.result) ≡ shared r h code = to_z-of_z w64 c.shared_amount.result (record { sfits = c.shared_amount.type_inv }) ∙ c.shared_amount.ensures in
     record {
       shareable = (λ i. shareable (nat_abs (e i)) (c.requires.weighed i)) ∙ can_share r c.requires.sound h code c.requires.basis c.requires.borne;
       places = c.requires.places ∙ sym (ap length c.requires.weighed ∙ weights_length r h);
@@ -34,7 +34,7 @@ add_listed-requires g c =
     let f = g.R.Sharing.parts c.args.rule.now in
     let fair = g.met.R.Sharing.fair c.args.rule.now in
     let ok = can_share r s h code c.requires.basis c.requires.borne in
-    let e : to_z w64 (of_z w64 c.shared_amount.result) ≡ shared r h code = to_z-of_z w64 c.shared_amount.result (record { sfits = c.shared_amount.type-inv }) ∙ c.shared_amount.ensures in
+    let e : to_z w64 (of_z w64 c.shared_amount.result) ≡ shared r h code = to_z-of_z w64 c.shared_amount.result (record { sfits = c.shared_amount.type_inv }) ∙ c.shared_amount.ensures in
     let is : c.share_out.new.shares ≡ signed_parts f (shared r h code) (weights Purchases r h) = c.share_out.ensures ∙ (λ i. signed_parts f (e i) (c.requires.weighed i)) in
     let n : length c.share_out.new.shares ≡ length (weights Purchases r h) = ap length is ∙ parts_length f fair (shared r h code) (weights Purchases r h) ok in
     record {
@@ -54,7 +54,7 @@ returns g c =
     let f = g.R.Sharing.parts c.args.rule.now in
     let fair = g.met.R.Sharing.fair c.args.rule.now in
     let ok = can_share r s h code c.requires.basis c.requires.borne in
-    let e : to_z w64 (of_z w64 c.shared_amount.result) ≡ shared r h code = to_z-of_z w64 c.shared_amount.result (record { sfits = c.shared_amount.type-inv }) ∙ c.shared_amount.ensures in
+    let e : to_z w64 (of_z w64 c.shared_amount.result) ≡ shared r h code = to_z-of_z w64 c.shared_amount.result (record { sfits = c.shared_amount.type_inv }) ∙ c.shared_amount.ensures in
     let is : c.share_out.new.shares ≡ signed_parts f (shared r h code) (weights (basis_of code) r h) =
     c.share_out.ensures ∙ (λ i. signed_parts f (e i) (c.requires.weighed i)) ∙ ap (signed_parts f (shared r h code)) (sym (weights_of r s h code c.requires.basis)) in
     let n : length c.share_out.new.shares ≡ r.heading.accounts = c.share_out.auto.shares ∙ c.requires.places in

@@ -27,6 +27,6 @@ returns c =
     let r = held c.args.book.now in
     let h = c.args.hour in
     let m = c.args.market in
-    let e = to_z-of_z w64 c.sum_of.result (record { sfits = c.sum_of.type-inv }) ∙ c.sum_of.ensures
+    let e = to_z-of_z w64 c.sum_of.result (record { sfits = c.sum_of.type_inv }) ∙ c.sum_of.ensures
     ∙ (λ i. sum_over (λ x. cond (eqb x.hour h) (exchange_term (c.requires.priced i) m x) (pos 0)) (c.as_slice.ensures.value i)) in
     record { value = e; bound = rw e (omega (arith, exchanges_le r s m h, size_small r s h)) }

@@ -26,6 +26,6 @@ returns c =
     let s = c.requires.sound in
     let r = held c.args.book.now in
     let h = c.args.hour in
-    let e = to_z-of_z w64 c.sum_of.result (record { sfits = c.sum_of.type-inv }) ∙ c.sum_of.ensures
+    let e = to_z-of_z w64 c.sum_of.result (record { sfits = c.sum_of.type_inv }) ∙ c.sum_of.ensures
     ∙ (λ i. sum_over (λ x. cond (eqb x.hour h) (imbalance_value (c.requires.priced i) x) (pos 0)) (c.as_slice.ensures.value i)) in
     record { value = e; bound = rw e (omega (arith, values_le r s h, size_small r s h)) }

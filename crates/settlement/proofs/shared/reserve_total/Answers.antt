@@ -26,6 +26,6 @@ returns c =
     let r = held c.args.book.now in
     let h = c.args.hour in
     let m = c.args.market in
-    let e = to_z-of_z w64 c.sum_of.result (record { sfits = c.sum_of.type-inv }) ∙ c.sum_of.ensures
+    let e = to_z-of_z w64 c.sum_of.result (record { sfits = c.sum_of.type_inv }) ∙ c.sum_of.ensures
     ∙ (λ i. sum_over (λ x. cond (eqb x.hour h) (reserve_term m x) (pos 0)) (c.as_slice.ensures.value i)) ∙ sym (all_reserve r s m h) in
     record { value = e; bound = rw e (omega (arith, all_reserve_le r s m h, size_small r s h)) }
