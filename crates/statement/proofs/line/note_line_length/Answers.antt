@@ -9,7 +9,7 @@ returns-in-Some c =
     let f : SFits w64 n.amount = search rules in
     record {
       value =
-          c.amount_line_length.ensures.value c.in-Some.-code ∙ ap (λ a. length (amount_line c.in-Some.-code n.party a)) (to_z-of_z w64 n.amount f)
+          c.amount_line_length.ensures.value c.in-Some._code ∙ ap (λ a. length (amount_line c.in-Some._code n.party a)) (to_z-of_z w64 n.amount f)
           ∙ ap (λ o. length (line_under o n.party n.amount)) c.in-Some.ensures;
       bound = c.amount_line_length.ensures.bound;
     }
