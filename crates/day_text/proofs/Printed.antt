@@ -5,7 +5,7 @@ use Rattle.faults.specs.declared.fault.Place.{Place}
 use Rattle.dayfile.specs.Records.{Records}
 use Rattle.dayfile.specs.declared.heading.Heading.{Heading}
 use Rattle.book.specs.Books.{answer, no_records}
-use Rattle.book.specs.Prices.{first_unpriced}
+use Rattle.closing.specs.Prices.{first_unpriced}
 use Rattle.book.specs.Soundness.{sound_records}
 use Rattle.codes.specs.Cells.{cell}
 use Rattle.codes.specs.declared.code.Code.{Code}
@@ -15,7 +15,7 @@ use Rattle.ledger.specs.Issues.{notes_of}
 use Rattle.ledger.specs.declared.note.Note.{Note}
 use Rattle.loading.specs.Loading.{file_records, left_under, load_leaves, opening, records_or_none, records_under}
 use Rattle.loading.proofs.Whole.{loaded_is_sound}
-use Rattle.dayfile.specs.Decoded.{and_then}
+use Rattle.decoding.specs.Decoded.{and_then}
 use Rattle.settlement.specs.Days.{Filled, Holds, day_cell, lacking_fault, or_unpriced, outcome, settle_refusal}
 use Rattle.settlement_laws.proofs.Balance.{cells_are_small}
 use Rattle.sharing.specs.Running.{running}
