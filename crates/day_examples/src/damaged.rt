@@ -56,7 +56,8 @@ fn other_counts(rt: HostRuntime) -> Result<(), Fail> {
     let number = refused(settle(day, &Rule::Running, &book, &mut table, &ledger));
     assert_eq!(rt; number, 1);
     assert_eq!(rt; book.positions.len(), 1);
-    check_eq(table.amount(Code::A1, 1), 0).note("nothing was settled")
+    assert_eq!(rt; table.amount(Code::A1, 1), 0, "nothing was settled");
+    Ok(())
 }
 
 #[test]
@@ -69,7 +70,7 @@ fn a_cell_beyond_the_limit(rt: HostRuntime) -> Result<(), Fail> {
     table.put(Code::F6, 52, -100_000_000_000_000_001);
     let number = refused(issue(day, &book, &table, &mut ledger));
     assert_eq!(rt; number, 1);
-    check_eq(ledger[0].code, 0).note("no note was added")?;
+    assert_eq!(rt; ledger[0].code, 0, "no note was added");
     assert_eq!(rt; table.amount(Code::F6, 52), -100_000_000_000_000_001);
     assert_eq!(rt; table.amount(Code::A1, 1), -100_000_000);
     Ok(())
@@ -100,5 +101,6 @@ fn notes_out_of_order(rt: HostRuntime) -> Result<(), Fail> {
     let number = refused(statement(day, 0, &book, &table, &ledger, &mut buffer));
     assert_eq!(rt; number, 1);
     assert!(rt; ledger[0].party == 2 && ledger[1].party == 1);
-    check(buffer == [7; 200]).note("nothing was written")
+    assert!(rt; buffer == [7; 200], "nothing was written");
+    Ok(())
 }

@@ -62,7 +62,7 @@ mod tests {
     }
 
     #[test]
-    fn sound_notes(rt: HostRuntime) -> Result<(), Fail> {
+    fn sound_notes(rt: HostRuntime) {
         let ledger = [
             note(0, 1, 1, 150),
             note(0, 1, 2, -100),
@@ -72,23 +72,28 @@ mod tests {
         assert!(rt; are_sound(&ledger, 3, 2));
         assert!(rt; are_sound(&ledger, 0, 0));
         assert!(rt; !are_sound(&ledger, 4, 2));
-        check(!are_sound(&ledger, 3, 1)).note("issue 1 was not made")?;
-        check(!are_sound(&ledger, 5, 2)).note("a note count beyond the ledger")
+        assert!(rt; !are_sound(&ledger, 3, 1), "issue 1 was not made");
+        assert!(rt; !are_sound(&ledger, 5, 2), "a note count beyond the ledger");
     }
 
     #[test]
-    fn unsound_notes() -> Result<(), Fail> {
-        check(!are_sound(&[note(0, 0, 1, 5)], 1, 1)).note("no code")?;
-        check(!are_sound(&[note(0, 15, 1, 5)], 1, 1)).note("unknown code")?;
-        check(!are_sound(&[note(0, 1, 33, 5)], 1, 1)).note("unknown party")?;
-        check(!are_sound(&[note(0, 1, 1, 0)], 1, 1)).note("amount 0")?;
-        check(!are_sound(&[note(0, 1, 1, -100_000_000_000_000_001)], 1, 1)).note(
-            "amount beyond the limit",
-        )?;
-        check(!are_sound(&[note(0, 1, 1, 5), note(0, 1, 1, 5)], 2, 1)).note("equal neighbours")?;
-        check(!are_sound(&[note(1, 1, 1, 5), note(0, 1, 2, 5)], 2, 2)).note(
-            "an earlier issue behind a later one",
-        )
+    fn unsound_notes(rt: HostRuntime) {
+        assert!(rt; !are_sound(&[note(0, 0, 1, 5)], 1, 1), "no code");
+        assert!(rt; !are_sound(&[note(0, 15, 1, 5)], 1, 1), "unknown code");
+        assert!(rt; !are_sound(&[note(0, 1, 33, 5)], 1, 1), "unknown party");
+        assert!(rt; !are_sound(&[note(0, 1, 1, 0)], 1, 1), "amount 0");
+        assert!(rt;
+            !are_sound(&[note(0, 1, 1, -100_000_000_000_000_001)], 1, 1),
+            "amount beyond the limit"
+        );
+        assert!(rt;
+            !are_sound(&[note(0, 1, 1, 5), note(0, 1, 1, 5)], 2, 1),
+            "equal neighbours"
+        );
+        assert!(rt;
+            !are_sound(&[note(1, 1, 1, 5), note(0, 1, 2, 5)], 2, 2),
+            "an earlier issue behind a later one"
+        );
     }
 
     #[test]
@@ -112,7 +117,7 @@ mod tests {
     #[test]
     fn statements(rt: HostRuntime) -> Result<(), Fail> {
         let Some(heading) = Heading::new(2019, 3, 5, 24, 3, 1, 1) else {
-            return check(false).note("no heading");
+            return Err(Fail::new("no heading"));
         };
         let ledger = [
             note(0, 1, 1, 150_000_000),
