@@ -1,5 +1,5 @@
 -- Physical purchases, of positions alone.
-use Rattle.std.specs.Prelude.{ℕ, cond, ◌&&◌, List, map, sum_by, ◌==◌}
+use Rattle.std.specs.Prelude.{ℕ, cond, List, map, sum_by, ◌==◌}
 use Rattle.std.specs.List.{range_with_len}
 use Rattle.dayfile.specs.declared.record.Position.{Position}
 use Rattle.valuation.specs.Terms.{class_buys}

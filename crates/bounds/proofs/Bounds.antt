@@ -1,5 +1,5 @@
 -- How large the amounts of a scope can be, for the records of a sound book.
-use Rattle.std.proofs.Common.{◌≡◌, ℕ, zero, suc, ◌+◌, ◌*◌, ◌<◌, ◌≤◌, Bool, true, false, cond, ◌&&◌, eqb, List, [], ◌∷◌, map, length, ℤ, pos, negsuc, ◌+ℤ◌, ◌-ℤ◌, ◌*ℤ◌, neg_ℤ, nat_abs, Some, None, sum_by, sum, Option, sym, refl, ap, ◌∙◌, subst, arith}
+use Rattle.std.proofs.Common.{◌≡◌, ℕ, ◌+◌, ◌≤◌, Bool, true, false, cond, ◌&&◌, eqb, List, length, ℤ, pos, ◌+ℤ◌, ◌-ℤ◌, ◌*ℤ◌, neg_ℤ, nat_abs, Some, None, sum_by, sum, Option, arith}
 use borrow.Author.Differences.{ints}
 use Rattle.std.specs.List.{range_with_len, AllByRecursion as All}
 use Rattle.std.proofs.lemmas.List.FromFn.{length-map-range_with_len}
@@ -8,19 +8,16 @@ use Rattle.dayfile.specs.Records.{Records}
 use Rattle.dayfile.specs.declared.record.Class.{Class}
 use Rattle.dayfile.specs.declared.record.Class.TheVariants.{Generation, Load, Import, Export}
 use Rattle.dayfile.specs.declared.record.Failure.{Failure}
-use Rattle.dayfile.specs.declared.record.Fine.{Fine}
 use Rattle.dayfile.specs.declared.record.Interconnection.{Interconnection}
 use Rattle.dayfile.specs.declared.record.Position.{Position}
 use Rattle.dayfile.specs.declared.record.Price.{Price}
 use Rattle.dayfile.specs.declared.record.Reserve.{Reserve}
-use Rattle.codes.specs.Codes.{basis_of}
 use Rattle.codes.specs.Sums.{sum_over}
-use Rattle.codes.specs.declared.code.Basis.{Basis}
-use Rattle.codes.specs.declared.code.Basis.TheVariants.{Own, Purchases}
+use Rattle.codes.specs.declared.code.Basis.TheVariants.{Purchases}
 use Rattle.codes.specs.declared.code.Code.{Code}
 use Rattle.codes.specs.declared.code.Code.TheVariants.{A1, A2, A3, A4, B1, B2, B3, B4, F1, F2, F3, F4, F5, F6}
-use Rattle.amounts.specs.Amounts.{accounts, energy, exchange, imbalance, owned_by, purchases, reserve, scopes, shared, value_of_imbalance, weights}
-use Rattle.items.specs.Items.{all_fines, all_penalties, at_least_zero, failed_among, failing, fines, penalties, penalty_among}
+use Rattle.amounts.specs.Amounts.{accounts, energy, exchange, imbalance, owned_by, purchases, reserve, shared, value_of_imbalance, weights}
+use Rattle.items.specs.Items.{all_fines, failed_among, failing, fines, penalties, penalty_among}
 use Rattle.price_grid.specs.Found.{price_at}
 use Rattle.valuation.specs.Terms.{class_sign, exchange_energy, exchange_term, failed_term, fine_mils, imbalance_term, imbalance_value, market_price, net_export, position_energy, position_term, price_in, purchase, reserve_energy, reserve_price, reserve_term}
 use Rattle.valuation.specs.Valid.{Listed, Sound, ValidFine, ValidInterconnection, ValidPosition, ValidPrice, ValidReserve}

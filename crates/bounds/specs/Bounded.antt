@@ -1,5 +1,5 @@
 -- What a sound book bounds.
-use Rattle.std.specs.Prelude.{◌≡◌, ℕ, ◌≤◌, true, sum, unsigned_abs}
+use Rattle.std.specs.Prelude.{◌≡◌, ◌≤◌, true, sum, unsigned_abs}
 use Rattle.dayfile.specs.Records.{Records}
 use Rattle.book.specs.Soundness.{sound_records}
 use Rattle.codes.specs.declared.code.Basis.TheVariants.{Purchases}

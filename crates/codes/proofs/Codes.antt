@@ -1,5 +1,5 @@
 -- The codes by their places.
-use Rattle.std.proofs.Common.{◌≡◌, ℕ, ◌<◌, List, map, length, get_or, sym, refl, ap, ◌∙◌, arith}
+use Rattle.std.proofs.Common.{◌≡◌, ℕ, ◌<◌, List, map, get_or, sym, refl, ap, ◌∙◌, arith}
 use Rattle.std.proofs.lemmas.List.{get_or-map}
 use Rattle.codes.specs.Codes.{all_codes, code_at, code_count, code_index, row_of}
 use Rattle.codes.specs.declared.code.Code.{Code}

@@ -1,11 +1,10 @@
 -- Codes, parties and cells are told by their numbers and places.
-use Rattle.std.proofs.Common.{◌≡◌, ℕ, ◌+◌, ◌*◌, ◌/◌, ◌%◌, ◌<◌, ◌≤◌, Bool, true, false, cond, eqb, ltb, get_or, pos, Some, None, Option, sym, refl, ap, ◌∙◌, arith}
+use Rattle.std.proofs.Common.{◌≡◌, ℕ, ◌+◌, ◌*◌, ◌/◌, ◌%◌, ◌<◌, Bool, true, false, cond, eqb, ltb, get_or, pos, Some, None, sym, refl, ap, ◌∙◌, arith}
 use Rattle.std.proofs.lemmas.Bool.{eqb-true, ltb-true}
-use Rattle.codes.specs.Cells.{amount_at, cell, cell_at, cell_count}
-use Rattle.codes.specs.Codes.{code_at, code_count, code_index, code_number, code_of}
+use Rattle.codes.specs.Cells.{amount_at, cell, cell_count}
+use Rattle.codes.specs.Codes.{code_at, code_count, code_index}
 use Rattle.codes.specs.Laws.{NumbersTellCodes, PlacesTellCells, PlacesTellParties}
 use Rattle.codes.specs.Parties.{party_count, party_numbers, party_place}
-use Rattle.codes.specs.declared.code.Code.{Code}
 use Rattle.codes.specs.declared.code.Code.TheVariants.{A1, A2, A3, A4, B1, B2, B3, B4, F1, F2, F3, F4, F5, F6}
 use Rattle.codes.specs.declared.table.Table.{Table}
 use Rattle.codes.specs.declared.table.TableCell.{TableCell}

@@ -1,7 +1,6 @@
 -- One cell of a table put.
-use Rattle.std.proofs.Common.{◌≡◌, ℕ, ◌+◌, ◌*◌, ◌<◌, true, ◌≢◌, List, length, get_or, set, replicate, ℤ, pos, is_some, Some, None, Option, sym, refl, ap, ◌∙◌, ⊎_elim, arith, get_or-set_other, get_or-set_same}
+use Rattle.std.proofs.Common.{◌≡◌, ℕ, ◌+◌, ◌*◌, ◌<◌, ◌≢◌, length, get_or, set, ℤ, pos, is_some, Some, None, Option, refl, ap, ◌∙◌, arith, get_or-set_other, get_or-set_same}
 use Rattle.std.proofs.lemmas.List.{get_or-replicate}
-use Rattle.std.proofs.lemmas.Bool.{cases_eq}
 use Rattle.codes.specs.Cells.{Put, amount_at, cell, cell_count, empty_cells}
 use Rattle.codes.specs.Codes.{code_index}
 use Rattle.codes.specs.Parties.{party_count, party_numbers, party_place}

@@ -1,5 +1,5 @@
 -- The cells of a table.
-use Rattle.std.specs.Prelude.{◌≡◌, ℕ, ◌+◌, ◌*◌, ◌/◌, ◌%◌, true, cond, List, [], ◌∷◌, replicate, ℤ, pos, is_some, Some, None, Option, nat_lt, slice_index, slice_index_or}
+use Rattle.std.specs.Prelude.{◌≡◌, ℕ, ◌+◌, ◌*◌, ◌/◌, ◌%◌, true, cond, List, replicate, ℤ, pos, is_some, Some, None, Option, nat_lt, slice_index, slice_index_or}
 use Rattle.codes.specs.Codes.{code_at, code_count, code_index}
 use Rattle.codes.specs.Parties.{party_count, party_numbers, party_place}
 use Rattle.codes.specs.declared.code.Code.{Code}

@@ -1,5 +1,5 @@
 -- The codes: number, letter, digit, kind of party and basis of every one.
-use Rattle.std.specs.Prelude.{ℕ, ◌-◌, cond, ◌&&◌, List, [], ◌∷◌, map, length, Some, None, Option, nat_le, slice_index_or}
+use Rattle.std.specs.Prelude.{ℕ, ◌-◌, cond, ◌&&◌, List, [], ◌∷◌, length, Some, None, Option, nat_le, slice_index_or}
 use Rattle.codes.specs.declared.code.Basis.{Basis}
 use Rattle.codes.specs.declared.code.Basis.TheVariants.{Own, Purchases}
 use Rattle.codes.specs.declared.code.Code.{Code}

@@ -1,9 +1,8 @@
 -- What holds of codes, parties and tables.
-use Rattle.std.specs.Prelude.{◌≡◌, ℕ, ◌<◌, ℤ, ◌+ℤ◌, Some, slice_index}
+use Rattle.std.specs.Prelude.{◌≡◌, ℕ, ◌<◌, Some, slice_index}
 use Rattle.codes.specs.Cells.{cell, cell_at}
-use Rattle.codes.specs.Codes.{all_codes, code_at, code_count, code_index, code_number, code_of}
+use Rattle.codes.specs.Codes.{code_at, code_index, code_number, code_of}
 use Rattle.codes.specs.Parties.{party_count, party_numbers, party_place}
-use Rattle.codes.specs.Sums.{total}
 use Rattle.codes.specs.declared.code.Code.{Code}
 use Rattle.codes.specs.declared.table.Table.{Table}
 use Rattle.codes.specs.declared.table.TableCell.{TableCell}

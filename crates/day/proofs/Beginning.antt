@@ -1,5 +1,5 @@
 -- How a day begins from a file.
-use Rattle.std.proofs.Common.{◌≡◌, ℕ, List, Ok, Err, Result, sym, refl, ap, ◌∙◌, arith}
+use Rattle.std.proofs.Common.{◌≡◌, ℕ, List, Ok, Err, Result, refl, ap, arith}
 use Rattle.faults.specs.declared.fault.Fault.{Fault}
 use Rattle.decoding.specs.Decoded.{and_then}
 use Rattle.dayfile.specs.Records.{Records}

@@ -1,13 +1,13 @@
 -- A table is its cells: two that have the same amount for each code and party are one.
-use Rattle.std.proofs.Common.{◌≡◌, ℕ, zero, suc, ◌+◌, ◌*◌, ◌/◌, ◌%◌, ◌<◌, ◌≤◌, true, ltb, List, [], ◌∷◌, ◌++◌, map, length, get_or, ℤ, pos, Some, None, Option, sym, refl, ap, ◌∙◌, arith, length-append}
+use Rattle.std.proofs.Common.{◌≡◌, ℕ, zero, suc, ◌+◌, ◌*◌, ◌/◌, ◌%◌, ◌<◌, ltb, List, [], ◌∷◌, map, length, get_or, ℤ, pos, Some, None, Option, sym, refl, ap, ◌∙◌, arith, length-append}
 use lib.ListN.{length-map}
 use Rattle.std.proofs.lemmas.List.FromFn.{fill_by_all}
 use Rattle.std.proofs.lemmas.List.{get_or-append-add, get_or_append_left, get_or-map}
 use Rattle.std.proofs.lemmas.Bool.{cond-true, lt-ltb}
 use Rattle.std.specs.List.{flat_map}
 use Rattle.faults.specs.declared.fault.Fault.{Fault}
-use Rattle.codes.specs.Cells.{cell, cell_at, cell_count}
-use Rattle.codes.specs.Codes.{all_codes, code_at, code_count}
+use Rattle.codes.specs.Cells.{cell_at, cell_count}
+use Rattle.codes.specs.Codes.{all_codes, code_at}
 use Rattle.codes.specs.Parties.{party_count, party_numbers}
 use Rattle.codes.specs.declared.code.Code.{Code}
 use Rattle.codes.specs.declared.code.Code.TheVariants.{A1}

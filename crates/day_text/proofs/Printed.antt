@@ -4,7 +4,7 @@ use Rattle.faults.specs.declared.fault.Fault.{Fault}
 use Rattle.faults.specs.declared.fault.Place.{Place}
 use Rattle.dayfile.specs.Records.{Records}
 use Rattle.dayfile.specs.declared.heading.Heading.{Heading}
-use Rattle.book.specs.Books.{answer, no_records}
+use Rattle.book.specs.Books.{answer}
 use Rattle.closing.specs.Prices.{first_unpriced}
 use Rattle.book.specs.Soundness.{sound_records}
 use Rattle.codes.specs.Cells.{cell}
@@ -12,17 +12,14 @@ use Rattle.codes.specs.declared.code.Code.{Code}
 use Rattle.codes.specs.declared.table.Table.{Table}
 use Rattle.amounts.specs.Amounts.{first_lacking, Scope}
 use Rattle.ledger.specs.Issues.{notes_of}
-use Rattle.ledger.specs.declared.note.Note.{Note}
 use Rattle.loading.specs.Loading.{file_records, left_under, load_leaves, opening, records_or_none, records_under}
 use Rattle.loading.proofs.Whole.{loaded_is_sound}
 use Rattle.decoding.specs.Decoded.{and_then}
-use Rattle.settlement.specs.Days.{Filled, Holds, day_cell, lacking_fault, or_unpriced, outcome, settle_refusal}
+use Rattle.settlement.specs.Days.{Filled, Holds, day_cell, lacking_fault, outcome, settle_refusal}
 use Rattle.settlement_laws.proofs.Balance.{cells_are_small}
 use Rattle.sharing.specs.Running.{running}
 use Rattle.sharing.specs.RunningFair.{running_fair}
-use Rattle.statement.specs.Statements.{statement_text}
-use Rattle.text.specs.Lines.{refused_text}
-use Rattle.day_text.specs.Texts.{first_notes, loaded_text, printed_text, settled_text}
+use Rattle.day_text.specs.Texts.{first_notes}
 
 -- how a settlement came out
 pub ok_settled : (o : Option Fault) → Ok tt ≡ outcome o → o ≡ None

@@ -1,5 +1,5 @@
 -- The calls determine histories: each call's event, day and memory follow from the day and the memory before it.
-use Rattle.std.proofs.Common.{◌≡◌, ℕ, ◌≤◌, Bool, true, false, cond, List, [], ◌∷◌, ◌++◌, length, take, replicate, Some, None, Ok, Err, Option, Result, sym, refl, ap, ◌∙◌, arith, length-append}
+use Rattle.std.proofs.Common.{◌≡◌, ℕ, ◌≤◌, List, [], ◌∷◌, length, replicate, Some, None, Ok, Err, Option, Result, sym, ap, ◌∙◌, arith, length-append}
 use Rattle.std.proofs.lemmas.List.{same_from_push}
 use Rattle.faults.specs.declared.fault.Fault.{Fault}
 use Rattle.decoding.specs.Decoded.{decoded_heading, decoded_record}
@@ -9,12 +9,11 @@ use Rattle.dayfile.specs.declared.record.Record.{Record}
 use Rattle.book.specs.Books.{new_heading, no_records}
 use Rattle.correcting.specs.declared.reading.Reading.{Reading}
 use Rattle.codes.specs.Cells.{empty_cells}
-use Rattle.codes.specs.declared.table.Table.{Table}
 use Rattle.ledger.specs.Notes.{no_note}
 use Rattle.loading.specs.Loading.{file_records, load_leaves}
 use Rattle.settlement.specs.Sheets.{sheet}
 use Rattle.statement.specs.Statements.{statement_text}
-use Rattle.day.specs.Calls.{Parts, close_gives, correct_gives, enter_gives, first_numbers, given, issue_gives, load_answer, notes_in, opened_with, reopen_gives, settle_gives, sheet_call_refusal, statement_refusal}
+use Rattle.day.specs.Calls.{Parts, close_gives, correct_gives, enter_gives, first_numbers, issue_gives, load_answer, notes_in, opened_with, reopen_gives, settle_gives, sheet_call_refusal, statement_refusal}
 use Rattle.day.specs.Memory.{Memory, begun_with, memory}
 use Rattle.day.specs.Tables.{table_of}
 use Rattle.day.specs.declared.refused.Refused.{Refused}
@@ -26,11 +25,11 @@ use Rattle.day.proofs.Beginning.{left_by_load}
 use Rattle.history.specs.Events.{Call, Event, call_of, calls_of, closed, closing, corrected, correcting, entered, entering, issued, issuing, loaded, loading, opened, opening, refused, reopened, reopening, settled, settling, sheeted, sheeting, stated, stating}
 use Rattle.history.specs.Histories.{Does, History, added_notes, closes, closes_not, corrects, corrects_not, enters, enters_not, issues, issues_not, loads, next, opens, reopens, reopens_not, settles, settles_not, sheets, sheets_not, states, states_not}
 use Rattle.history.specs.Laws.{CallsDetermineHistories}
-use Rattle.history.specs.States.{has_table, issues_made, numbers_of}
+use Rattle.history.specs.States.{issues_made, numbers_of}
 use Rattle.history.specs.declared.states.Day.{Day}
 use Rattle.history.specs.declared.states.Day.TheVariants.{Closed, Issued, Open, Settled}
 use Rattle.history.proofs.Ends.{refusal_in_room, statement_ends}
-use Rattle.history.proofs.Outcomes.{ok_not_err, was_refused, went_well}
+use Rattle.history.proofs.Outcomes.{was_refused, went_well}
 
 -- what a call comes to: the event, the day and the memory
 abbrev End : Type 0

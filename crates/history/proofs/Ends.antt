@@ -1,11 +1,11 @@
 -- How the calls end that answer more than a day: what an issue adds, what a statement writes, and whom a reopen refuses.
-use Rattle.std.proofs.Common.{◌≡◌, ℕ, ◌+◌, ◌≤◌, Bool, true, false, cond, ltb, leb, List, [], ◌∷◌, ◌++◌, length, take, drop, Some, None, Ok, Err, Option, Result, sym, refl, ap, ◌∙◌, subst, arith, length-take}
+use Rattle.std.proofs.Common.{◌≡◌, ℕ, ◌+◌, ◌≤◌, Bool, true, false, cond, ltb, leb, List, ◌++◌, length, take, drop, Some, None, Ok, Err, Option, Result, sym, refl, ap, ◌∙◌, arith, length-take}
 use Rattle.std.proofs.lemmas.List.{drop_at, take_at}
 use Rattle.std.proofs.lemmas.Bool.{le-leb, leb-true}
 use Rattle.std.specs.Option.{ok_or}
 use Rattle.faults.specs.Places.{plain}
 use Rattle.faults.specs.declared.fault.Fault.{Fault}
-use Rattle.faults.specs.declared.refusal.Refusal.TheVariants.{BufferTooShort, LedgerFull, NoIssueLeft, OutOfRange, UnsoundMemory}
+use Rattle.faults.specs.declared.refusal.Refusal.TheVariants.{BufferTooShort, NoIssueLeft, OutOfRange, UnsoundMemory}
 use Rattle.ledger.specs.Issues.{issue_answer, issue_leaves}
 use Rattle.ledger.specs.declared.note.Note.{Note}
 use Rattle.statement.specs.Statements.{statement_text}
@@ -17,11 +17,10 @@ use Rattle.day.specs.declared.issue_number.IssueNumber.{IssueNumber}
 use Rattle.day.specs.declared.refused.Refused.{Refused}
 use Rattle.day.specs.declared.state.Closed.{Closed}
 use Rattle.day.specs.declared.state.Issued.{Issued}
-use Rattle.day.specs.declared.state.Numbers.{Numbers}
 use Rattle.day.specs.declared.state.Settled.{Settled}
 use Rattle.history.specs.Histories.{added_notes}
 use Rattle.history.proofs.Keeping.{at_issue}
-use Rattle.history.proofs.Outcomes.{nothing_against, ok_not_err, some_not_none, was_refused, went_well}
+use Rattle.history.proofs.Outcomes.{nothing_against, ok_not_err, some_not_none, went_well}
 
 -- issue
 

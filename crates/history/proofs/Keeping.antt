@@ -1,39 +1,33 @@
 -- Each call keeps what a history keeps.
-use Rattle.std.proofs.Common.{◌≡◌, ℕ, ◌+◌, ◌-◌, ◌/◌, ◌<◌, ◌≤◌, Bool, true, false, cond, leb, ◌⊎◌, List, [], ◌∷◌, ◌++◌, length, get_or, take, drop, ℤ, pos, ◌+ℤ◌, ◌-ℤ◌, nat_abs, Some, None, Ok, Err, Option, Result, sym, refl, ap, ◌∙◌, subst, inl, inr, add-zero, arith, length-append, length-take}
+use Rattle.std.proofs.Common.{◌≡◌, ℕ, ◌+◌, ◌/◌, ◌<◌, ◌≤◌, Bool, true, false, leb, List, [], ◌∷◌, ◌++◌, length, get_or, take, pos, ◌-ℤ◌, nat_abs, Some, None, Ok, Option, Result, sym, refl, ap, ◌∙◌, subst, inl, inr, arith, length-append}
 use Rattle.std.proofs.lemmas.List.{get_or_append_left, get_or_push, flat_map_more}
 use Rattle.std.proofs.lemmas.Int.{ints}
 use Rattle.std.proofs.lemmas.Bool.{and_from, cases_lt, le-leb}
 use Rattle.std.specs.List.{flat_map}
-use Rattle.faults.specs.Places.{plain}
 use Rattle.faults.specs.declared.fault.Fault.{Fault}
 use Rattle.faults.specs.declared.refusal.Refusal.{Refusal}
-use Rattle.faults.specs.declared.refusal.Refusal.TheVariants.{LedgerFull, NoIssueLeft, UnsoundMemory}
-use Rattle.decoding.specs.Decoded.{and_then, decoded_record, place_of}
+use Rattle.decoding.specs.Decoded.{and_then, decoded_record}
 use Rattle.dayfile.specs.Records.{Records}
-use Rattle.dayfile.specs.declared.heading.Heading.{Heading}
 use Rattle.dayfile.specs.declared.record.Record.{Record}
 use Rattle.dayfile.specs.declared.record.Record.TheVariants.{Failure, Fine, Interconnection, Position, Price, Reserve}
-use Rattle.book.specs.Books.{admission, admitted, counts_of, entered, no_records, record_refusal, unless, with_record}
-use Rattle.correcting.specs.Readings.{corrected, correction, correction_refusal, reading_place, with_reading}
+use Rattle.book.specs.Books.{admission, admitted, counts_of, record_refusal, with_record}
+use Rattle.correcting.specs.Readings.{correction, correction_refusal, with_reading}
 use Rattle.book.specs.Soundness.{sound_records}
 use Rattle.correcting.specs.declared.reading.Reading.{Reading}
 use Rattle.book.proofs.Keeps.{entering_keeps_sound}
 use Rattle.correcting.proofs.Corrected.{correcting_keeps_sound}
 use Rattle.codes.specs.Cells.{cell, empty_cells}
-use Rattle.codes.specs.Sums.{sum_over, total}
+use Rattle.codes.specs.Sums.{total}
 use Rattle.codes.specs.declared.code.Code.{Code}
-use Rattle.codes.specs.declared.table.Table.{Table}
-use Rattle.ledger.specs.Issues.{earlier, issue_answer, issue_leaves, new_notes, noted}
+use Rattle.ledger.specs.Issues.{earlier, issue_leaves, noted}
 use Rattle.ledger.specs.Laws.{balance}
-use Rattle.ledger.specs.Notes.{amount_limit, cleared, no_note, sound_list, sound_notes, within_limit}
+use Rattle.ledger.specs.Notes.{amount_limit, cleared, sound_notes, within_limit}
 use Rattle.ledger.specs.declared.note.Note.{Note}
 use Rattle.ledger.proofs.Counting.{sum-++}
 use Rattle.ledger.proofs.Laws.{appended, balanced, borne, halves, kept_sound, reached}
-use Rattle.settlement.specs.Days.{day_cell, settle_refusal}
+use Rattle.settlement.specs.Days.{day_cell}
 use Rattle.settlement_laws.proofs.Balance.{cells_are_small}
-use Rattle.sharing.specs.Fair.{Fair}
-use Rattle.text.specs.Written.{written}
-use Rattle.day.specs.Calls.{Parts, fault_in, first_numbers, issue_refusal, made_before, notes_to_add, records_read, records_with, with_counts, with_notes}
+use Rattle.day.specs.Calls.{Parts, first_numbers, notes_to_add, with_counts, with_notes}
 use Rattle.day.specs.IssueNumbers.{following, issue_number}
 use Rattle.day.specs.Memory.{Memory, begun_with, memory}
 use Rattle.day.specs.Tables.{table_of}
@@ -46,12 +40,11 @@ use Rattle.day.specs.declared.state.Open as open_state
 use Rattle.day.specs.declared.state.Settled as settled_state
 use Rattle.history.specs.Events.{Event, Settlement, Summary, all_notes, begun, none_yet, settled_by, summed}
 use Rattle.history.specs.Events as event
-use Rattle.history.specs.Histories.{added_notes}
-use Rattle.history.specs.Laws.{Bear, Laws, NotesReachTheCell, NotesStandAndBalance, Reach, WasMade}
+use Rattle.history.specs.Laws.{Bear, NotesStandAndBalance, Reach, WasMade}
 use Rattle.history.specs.States.{has_table, is_issued, issues_made, numbers_of}
 use Rattle.history.specs.declared.states.Day.{Day}
 use Rattle.history.specs.declared.states.Day.TheVariants.{Closed, Issued, Open, Settled}
-use Rattle.history.proofs.Kept.{Accepted, Fills, Kept, MadeOf, day_even, day_holds, day_small, day_within, empty_within, sheets_defined}
+use Rattle.history.proofs.Kept.{Accepted, Kept, MadeOf, day_even, day_holds, day_small, day_within, empty_within, sheets_defined}
 use Rattle.history.proofs.Outcomes.{ok_not_err, some_not_none}
 
 false_not_true : {X : Type 0} → ◌≡◌ {A = Bool} false true → X

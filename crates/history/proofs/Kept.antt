@@ -1,5 +1,5 @@
 -- What a history keeps from call to call: the laws, and what the calls to come need.
-use Rattle.std.proofs.Common.{◌≡◌, ℕ, zero, suc, ◌+◌, ◌/◌, ◌%◌, ◌<◌, ◌≤◌, Bool, true, false, cond, ◌&&◌, eqb, ltb, leb, List, [], ◌∷◌, length, get_or, take, replicate, ℤ, pos, nat_abs, Some, None, Ok, Option, sym, refl, ap, ◌∙◌, subst, arith}
+use Rattle.std.proofs.Common.{◌≡◌, ℕ, zero, suc, ◌/◌, ◌%◌, ◌<◌, ◌≤◌, Bool, true, false, cond, eqb, ltb, List, [], ◌∷◌, length, get_or, replicate, ℤ, pos, nat_abs, Some, None, Option, sym, refl, ap, ◌∙◌, subst, arith}
 use Rattle.std.proofs.lemmas.Bool.{and_from, cond-true, le-leb, lt-ltb}
 use Rattle.faults.specs.Places.{at, fault_of}
 use Rattle.faults.specs.declared.fault.Fault.{Fault}
@@ -21,14 +21,13 @@ use Rattle.codes.specs.declared.table.TableCell.{TableCell}
 use Rattle.codes.proofs.Laws.{places_tell_cells}
 use Rattle.ledger.specs.Laws.{balance}
 use Rattle.ledger.specs.Notes.{all_within, amount_limit, sound_notes, within, within_limit}
-use Rattle.ledger.specs.declared.note.Note.{Note}
 use Rattle.settlement.specs.Days.{Holds, day_cell, lacking_fault, no_purchases, or_unpriced, settle_refusal, sheet_refusal}
 use Rattle.settlement.specs.Sheets.{sheet}
 use Rattle.settlement_laws.proofs.Balance.{cells_are_small, days_balance, parts_are_near, shares_are_whole, sheets_balance}
 use Rattle.codes.specs.Sums.{sum_over, total}
 use Rattle.amounts.specs.Amounts.{accounts}
 use Rattle.sharing.specs.Fair.{Fair}
-use Rattle.day.specs.Calls.{Parts, sheet_call_refusal}
+use Rattle.day.specs.Calls.{Parts}
 use Rattle.day.specs.Memory.{Memory, sound_memory}
 use Rattle.day.specs.Tables.{table_of}
 use Rattle.history.specs.Events.{Settlement, Summary, all_notes, none_yet, settled_by}

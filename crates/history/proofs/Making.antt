@@ -4,7 +4,6 @@ use Rattle.faults.specs.declared.fault.Fault.{Fault}
 use Rattle.decoding.specs.Decoded.{decoded_heading, decoded_record}
 use Rattle.dayfile.specs.Records.{Records}
 use Rattle.dayfile.specs.declared.heading.Heading.{Heading}
-use Rattle.dayfile.specs.declared.record.Record.{Record}
 use Rattle.book.specs.Books.{admission, admitted}
 use Rattle.codes.specs.declared.table.Table.{Table}
 use Rattle.loading.specs.Loading.{file_records, load_leaves}
@@ -20,7 +19,6 @@ use Rattle.day.specs.declared.state.Settled as settled_state
 use Rattle.history.specs.Events.{Lent, entering, issuing, lent, loading, opening, sheeting, stating}
 use Rattle.history.specs.Histories.{enters, issues, loads, opens, sheets, sheets_not, states, states_not}
 use Rattle.history.specs.Replays.{Replayed, Stepped}
-use Rattle.history.specs.declared.states.Day.{Day}
 use Rattle.history.specs.declared.states.Day.TheVariants.{Closed, Issued, Open, Settled}
 use Rattle.history.specs.declared.steps.Answer.TheVariants.{Added, Done, Refused as Refusal, Written}
 use Rattle.history.proofs.Ends.{issue_ends, statement_ends}

@@ -1,12 +1,8 @@
 -- What the answer of a call tells of how it went.
-use Rattle.std.proofs.Common.{◌≡◌, ℕ, Bool, true, false, cond, Some, None, Ok, Err, Option, Result, sym, refl, ap, ◌∙◌, arith}
-use Rattle.faults.specs.Places.{plain}
+use Rattle.std.proofs.Common.{◌≡◌, ℕ, Bool, true, false, cond, Some, None, Ok, Err, Option, Result, sym, refl, ap, arith}
 use Rattle.faults.specs.declared.fault.Fault.{Fault}
-use Rattle.faults.specs.declared.refusal.Refusal.TheVariants.{NoIssueLeft, UnsoundMemory}
-use Rattle.day.specs.Calls.{fault_in, given, in_sound}
-use Rattle.day.specs.Memory.{Memory, sound_memory}
+use Rattle.day.specs.Calls.{fault_in, given}
 use Rattle.day.specs.declared.refused.Refused.{Refused}
-use Rattle.day.specs.declared.state.Numbers.{Numbers}
 
 -- two answers of different kinds are not one
 pub ok_not_err : {A B : Type 0} {a : A} {b : B} {X : Type 0} → ◌≡◌ {A = Result A B} (Ok a) (Err b) → X

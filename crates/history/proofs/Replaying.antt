@@ -1,14 +1,13 @@
 -- The steps that were made, one after the other.
-use Rattle.std.proofs.Common.{◌≡◌, ℕ, ◌+◌, ◌<◌, ◌≤◌, Bool, true, false, List, [], ◌∷◌, ◌++◌, length, get_or, take, drop, Some, None, Ok, Err, Option, Result, sym, refl, ap, ◌∙◌, subst, Bor}
+use Rattle.std.proofs.Common.{◌≡◌, ℕ, ◌+◌, ◌<◌, ◌≤◌, false, List, [], ◌∷◌, ◌++◌, length, get_or, take, drop, Ok, Err, Option, sym, refl, ap, ◌∙◌, subst, Bor}
 use Rattle.std.proofs.lemmas.List.{drop_all, drop_more, map_more}
 use Rattle.faults.specs.declared.fault.Fault.{Fault}
 use Rattle.codes.specs.declared.table.Table.{Table}
 use Rattle.day.specs.Calls.{Parts, given}
 use Rattle.day.specs.Memory.{Memory}
 use Rattle.day.specs.declared.refused.Refused.{Refused}
-use Rattle.history.specs.Events.{Call, Event, Lent, answer_of, answers_of, call_of, calls_of, lent, lent_after, lent_in, takes}
+use Rattle.history.specs.Events.{Call, Event, Lent, answer_of, answers_of, call_of, calls_of, lent_after, lent_in, takes}
 use Rattle.history.specs.Histories.{Does, History, next}
-use Rattle.history.specs.Laws.{Always}
 use Rattle.history.specs.Replays.{RanOn, Replayed, Stepped, Stopped, call_in, calls_in, first_call}
 use Rattle.history.specs.declared.states.Day.{Day}
 use Rattle.history.specs.declared.steps.Answer.{Answer}

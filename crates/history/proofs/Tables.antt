@@ -1,21 +1,19 @@
 -- The cells of a table that is filled by code and party.
-use Rattle.std.proofs.Common.{◌≡◌, ℕ, ◌+◌, ◌-◌, ◌*◌, ◌/◌, ◌<◌, ◌≤◌, Bool, true, false, cond, ◌&&◌, eqb, leb, ◌⊎◌, List, [], ◌∷◌, map, length, get_or, ℤ, pos, ◌+ℤ◌, nat_abs, is_some, Some, None, Option, sym, refl, ap, ◌∙◌, subst, inl, inr, arith}
+use Rattle.std.proofs.Common.{◌≡◌, ℕ, ◌-◌, ◌<◌, ◌≤◌, Bool, true, false, cond, ◌&&◌, eqb, leb, List, [], ◌∷◌, length, get_or, ℤ, pos, is_some, Some, None, Option, sym, refl, ap, ◌∙◌, arith}
 use Rattle.std.proofs.lemmas.Int.{ints}
 use Rattle.std.proofs.lemmas.Bool.{and_parts, eqb-true, leb-true}
 use Rattle.std.specs.List.{flat_map}
 use Rattle.dayfile.specs.Records.{Records}
-use Rattle.amounts.specs.Amounts.{Scope, scopes}
-use Rattle.valuation.specs.Valid.{Sound}
-use Rattle.codes.specs.Cells.{amount_at, cell, cell_count}
-use Rattle.codes.specs.Codes.{all_codes, basis_of, code_at, code_count, code_index}
+use Rattle.amounts.specs.Amounts.{scopes}
+use Rattle.codes.specs.Cells.{amount_at, cell_count}
+use Rattle.codes.specs.Codes.{all_codes, basis_of, code_index}
 use Rattle.codes.specs.Parties.{party_count, party_numbers, party_place, system_party}
 use Rattle.codes.specs.Sums.{sum_over}
 use Rattle.codes.specs.declared.code.Code.{Code}
 use Rattle.codes.specs.declared.code.Code.TheVariants.{A1}
-use Rattle.codes.specs.declared.table.Table.{Table}
 use Rattle.codes.proofs.Codes.{code_at_index, index_below}
 use Rattle.codes.proofs.Places.{found_at, place_below, place_holds}
-use Rattle.settlement.specs.Days.{Holds, day_cell, item, items, sheets}
+use Rattle.settlement.specs.Days.{Holds, day_cell, items}
 use Rattle.settlement.specs.Sheets.{ByKind, amount_of, on_basis, sheet}
 use Rattle.settlement.proofs.Known.{known_account, known_system}
 use Rattle.day.specs.Calls.{Parts}

@@ -1,29 +1,24 @@
 -- Every history keeps the laws.
-use Rattle.std.proofs.Common.{◌≡◌, ℕ, ◌+◌, ◌≤◌, List, [], ◌∷◌, length, None, Ok, Result, sym, refl, ap, ◌∙◌, subst}
+use Rattle.std.proofs.Common.{◌≡◌, ℕ, ◌+◌, ◌≤◌, List, length, Ok, Result, sym, refl, ap, ◌∙◌, subst}
 use Rattle.faults.specs.declared.fault.Fault.{Fault}
-use Rattle.decoding.specs.Decoded.{decoded_heading}
 use Rattle.dayfile.specs.Records.{Records}
 use Rattle.dayfile.specs.declared.heading.Heading.{Heading}
-use Rattle.dayfile.specs.declared.record.Record.{Record}
 use Rattle.book.specs.Books.{admitted, entered, no_records}
 use Rattle.correcting.specs.Readings.{corrected, correction}
-use Rattle.correcting.specs.declared.reading.Reading.{Reading}
 use Rattle.book.proofs.Keeps.{opened_is_sound}
 use Rattle.ledger.specs.Issues.{issue_leaves}
 use Rattle.ledger.specs.declared.note.Note.{Note}
 use Rattle.loading.specs.Loading.{file_records, load_leaves}
 use Rattle.loading.proofs.Whole.{loaded_is_sound}
-use Rattle.codes.specs.declared.table.Table.{Table}
 use Rattle.day.specs.Calls.{first_numbers, load_answer, notes_to_add, opened_with, with_counts, with_notes}
 use Rattle.day.specs.Memory.{Memory, begun_with, memory}
 use Rattle.day.specs.declared.state.Closed as closed_state
-use Rattle.day.specs.declared.state.Numbers.{Numbers}
 use Rattle.day.specs.declared.state.Open as open_state
 use Rattle.day.specs.declared.state.Settled as settled_state
 use Rattle.day.proofs.Beginning.{closed_with, left_by_load, open_with}
 use Rattle.history.specs.Events.{Event, Settlement, Summary, begun, none_yet, settled_by, summary, summed}
 use Rattle.history.specs.Events as event
-use Rattle.history.specs.Histories.{Does, History, added_notes, closes, closes_not, corrects, corrects_not, enters, enters_not, issues, issues_not, loads, next, opens, reopens, reopens_not, settles, settles_not, sheets, sheets_not, states, states_not}
+use Rattle.history.specs.Histories.{Does, History, closes, closes_not, corrects, corrects_not, enters, enters_not, issues, issues_not, loads, next, opens, reopens, reopens_not, settles, settles_not, sheets, sheets_not, states, states_not}
 use Rattle.history.specs.Laws.{Always, EveryHistoryKeepsTheLaws, MemoryStaysSound}
 use Rattle.history.specs.declared.states.Day.{Day}
 use Rattle.history.specs.declared.states.Day.TheVariants.{Closed, Issued, Open, Settled}

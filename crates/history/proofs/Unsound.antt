@@ -1,11 +1,11 @@
 -- No call of a history is refused for unsound memory.
-use Rattle.std.proofs.Common.{◌≡◌, ℕ, Bool, true, false, cond, List, ◌∷◌, Some, None, Option, sym, refl, ap, ◌∙◌, arith}
+use Rattle.std.proofs.Common.{◌≡◌, ℕ, Bool, true, false, cond, Some, Option, ap, arith}
 use Rattle.faults.specs.declared.fault.Fault.{Fault}
 use Rattle.faults.specs.declared.refusal.Refusal.TheVariants.{UnsoundMemory}
 use Rattle.day.specs.Calls.{notes_in, made_with, notes_to_add}
 use Rattle.day.specs.Memory.{Memory}
 use Rattle.history.specs.Events.{Event, Summary}
-use Rattle.history.specs.Histories.{Does, History, closes, closes_not, corrects, corrects_not, enters, enters_not, issues, issues_not, loads, next, opens, reopens, reopens_not, settles, settles_not, sheets, sheets_not, states, states_not}
+use Rattle.history.specs.Histories.{Does, closes, closes_not, corrects, corrects_not, enters, enters_not, issues, issues_not, loads, next, opens, reopens, reopens_not, settles, settles_not, sheets, sheets_not, states, states_not}
 use Rattle.history.specs.Laws.{FoundSound, NoCallFindsMemoryUnsound}
 use Rattle.history.specs.declared.states.Day.{Day}
 use Rattle.history.proofs.Ends.{reopen_reason}

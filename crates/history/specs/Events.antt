@@ -1,5 +1,5 @@
 -- The calls of a history, how each ended, and what one reads off them.
-use Rattle.std.specs.Prelude.{ℕ, Bool, false, List, [], ◌∷◌, ◌++◌, map, length, drop}
+use Rattle.std.specs.Prelude.{ℕ, Bool, false, List, [], ◌∷◌, ◌++◌, length, drop}
 use Rattle.std.specs.List.{flat_map}
 use Rattle.faults.specs.declared.fault.Fault.{Fault}
 use Rattle.dayfile.specs.Records.{Records}

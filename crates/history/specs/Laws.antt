@@ -1,5 +1,5 @@
 -- The laws of histories.
-use Rattle.std.specs.Prelude.{◌≡◌, ℕ, ◌-◌, ◌<◌, ◌≤◌, true, List, [], ◌∷◌, length, get_or, take, ℤ, pos, ◌-ℤ◌, ◌*ℤ◌, Ok, sum, ◌≢◌, slice_index, slice_index_or, unsigned_abs}
+use Rattle.std.specs.Prelude.{◌≡◌, ℕ, ◌-◌, ◌<◌, ◌≤◌, true, List, [], ◌∷◌, length, get_or, take, pos, ◌-ℤ◌, ◌*ℤ◌, Ok, sum, ◌≢◌, slice_index, slice_index_or, unsigned_abs}
 use Rattle.faults.specs.declared.refusal.Refusal.TheVariants.{UnsoundMemory}
 use Rattle.dayfile.specs.Records.{Records}
 use Rattle.codes.specs.Cells.{cell}

@@ -1,5 +1,5 @@
 -- Accounts and external systems are parties.
-use Rattle.std.proofs.Common.{◌≡◌, ℕ, suc, ◌+◌, ◌-◌, ◌≤◌, true, is_some, sym, refl, ap, ◌∙◌, arith}
+use Rattle.std.proofs.Common.{◌≡◌, ℕ, ◌+◌, ◌-◌, ◌≤◌, true, is_some, sym, refl, ap, ◌∙◌, arith}
 use Rattle.codes.specs.Parties.{party_place, system_party}
 use Rattle.codes.proofs.Places.{all_below, each_below}
 

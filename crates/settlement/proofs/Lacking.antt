@@ -1,13 +1,11 @@
 -- What lacks weights, and what can be shared.
-use Rattle.std.proofs.Common.{◌≡◌, ℕ, zero, suc, ◌+◌, ◌<◌, ◌≤◌, Bool, true, false, cond, not, ◌&&◌, ◌||◌, eqb, ltb, List, [], ◌∷◌, length, get_or, drop, ℤ, pos, negsuc, nat_abs, sum, sym, refl, ap, ◌∙◌, subst, arith}
-use Rattle.std.proofs.lemmas.List.{at_drop_more}
-use Rattle.std.proofs.lemmas.Bool.{eq-eqb, eqb-true, false≢true, not-false, or_parts, true≢false}
+use Rattle.std.proofs.Common.{◌≡◌, ℕ, zero, suc, ◌<◌, Bool, true, false, not, ◌&&◌, eqb, List, [], ◌∷◌, length, get_or, ℤ, pos, negsuc, nat_abs, sum, sym, ap, ◌∙◌, arith}
+use Rattle.std.proofs.lemmas.Bool.{eq-eqb, eqb-true, false≢true, not-false, or_parts}
 use Rattle.dayfile.specs.Records.{Records}
 use Rattle.sharing.specs.Shareable.{shareable}
-use Rattle.sharing.specs.Admitted.{Facts, shared as facts-shared}
-use Rattle.codes.specs.Codes.{all_codes, basis_of, code_at, code_count, code_index}
-use Rattle.codes.specs.declared.code.Basis.{Basis}
-use Rattle.codes.specs.declared.code.Basis.TheVariants.{Own, Purchases}
+use Rattle.sharing.specs.Admitted.{shared as facts-shared}
+use Rattle.codes.specs.Codes.{all_codes, basis_of, code_at, code_index}
+use Rattle.codes.specs.declared.code.Basis.TheVariants.{Purchases}
 use Rattle.codes.specs.declared.code.Code.{Code}
 use Rattle.codes.proofs.Codes.{code_at_index, index_below}
 use Rattle.amounts.specs.Amounts.{any_of, is_zero, lacking, lacks, shared, weights}

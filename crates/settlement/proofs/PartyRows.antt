@@ -1,13 +1,13 @@
 -- The amounts of a row by kinds of party.
-use Rattle.std.proofs.Common.{◌≡◌, ℕ, ◌+◌, ◌-◌, ◌<◌, ◌≤◌, Bool, true, false, cond, ◌&&◌, eqb, leb, List, [], ◌∷◌, ℤ, pos, neg_ℤ, sym, refl, ap, ◌∙◌, ⊎_elim, arith}
+use Rattle.std.proofs.Common.{◌≡◌, ℕ, ◌-◌, ◌≤◌, Bool, true, false, cond, ◌&&◌, eqb, leb, List, ℤ, pos, neg_ℤ, sym, refl, ap, ◌∙◌, ⊎_elim, arith}
 use Rattle.std.specs.List.{AllByRecursion as All}
-use Rattle.std.proofs.lemmas.Bool.{and_from, and_left, and_parts, and_right, cases_Bool, cases_eq, cond-false, cond-true, eq-eqb, eqb-true, le-leb, leb-true, lt-leb, ne_eqb}
+use Rattle.std.proofs.lemmas.Bool.{and_from, and_parts, and_right, cases_Bool, cases_eq, cond-false, cond-true, eq-eqb, le-leb, leb-true, lt-leb, ne_eqb}
 use Rattle.codes.specs.Parties.{system_party}
 use Rattle.codes.specs.Sums.{sum_over}
 use Rattle.amounts.specs.Amounts.{owned_by}
-use Rattle.amounts.proofs.Adding.{owns_nothing, sum_neg, sum_same, sum_same_all}
+use Rattle.amounts.proofs.Adding.{owns_nothing, sum_neg, sum_same}
 use Rattle.bounds.proofs.Facts.{all_map}
-use Rattle.settlement.specs.Sheets.{ByKind, amount_of, to_accounts, to_nobody, to_systems, to_universal_service, to_working_capital}
+use Rattle.settlement.specs.Sheets.{amount_of, to_accounts, to_nobody, to_systems, to_universal_service, to_working_capital}
 
 abbrev is_account : ℕ → ℕ → Bool
 is_account n q = leb 1 q && leb q n

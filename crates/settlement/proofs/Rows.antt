@@ -1,17 +1,16 @@
 -- Rows that grow cell by cell, and tables that grow row by row.
-use Rattle.std.proofs.Common.{◌≡◌, ℕ, ◌+◌, ◌-◌, ◌<◌, ◌≤◌, Bool, true, false, cond, ◌&&◌, eqb, leb, List, length, get_or, ℤ, pos, ◌+ℤ◌, nat_abs, sym, refl, ap, ◌∙◌, subst, ⊎_elim, arith}
-use borrow.Author.Differences.{ints}
+use Rattle.std.proofs.Common.{◌≡◌, ℕ, ◌+◌, ◌-◌, ◌<◌, ◌≤◌, false, cond, ◌&&◌, eqb, leb, List, get_or, ℤ, pos, ◌+ℤ◌, sym, refl, ap, ◌∙◌, subst, ⊎_elim, arith}
 use lib.IntN.{+ℤ_assoc, +ℤ_idl, +ℤ_idr}
 use Rattle.std.proofs.lemmas.Bool.{and_from, and_left, and_right, cases_eq, cases_lt, cond-false, cond-true, eq-eqb, le-leb, lt-leb, ne_eqb}
 use Rattle.codes.specs.Cells.{cell, empty_cells}
-use Rattle.codes.specs.Codes.{code_at, code_count, code_index}
+use Rattle.codes.specs.Codes.{code_count, code_index}
 use Rattle.codes.specs.declared.code.Code.{Code}
 use Rattle.codes.specs.declared.table.Table.{Table}
 use Rattle.codes.proofs.Codes.{index_below, same_code}
 use Rattle.codes.proofs.Puts.{empty_cell}
 use Rattle.amounts.specs.Amounts.{owned_by}
 use Rattle.settlement.specs.Days.{Holds}
-use Rattle.settlement.specs.Grown.{Added, Grown, Room, RoomIn, RowAdded, listed_amount}
+use Rattle.settlement.specs.Grown.{Added, Grown, Room, RoomIn, RowAdded}
 
 pub row_none : (t : Table) (code : Code) (f : ℕ → ℤ) → ((q : ℕ) → f q ≡ pos 0) → RowAdded t t code f
 row_none t code f z = record { row = λ q. sym (ap (λ v. cell t code q +ℤ v) (z q) ∙ +ℤ_idr (cell t code q)); others = λ d q ne. refl }

@@ -1,7 +1,6 @@
 -- How large the cells of a sheet and of a day can be.
-use Rattle.std.proofs.Common.{◌≡◌, ℕ, zero, suc, ◌+◌, ◌-◌, ◌<◌, ◌≤◌, Bool, true, false, cond, ◌&&◌, eqb, leb, List, [], ◌∷◌, ◌++◌, map, length, get_or, ℤ, pos, ◌+ℤ◌, neg_ℤ, nat_abs, Some, None, sum_by, Option, sym, refl, ap, ◌∙◌, ⊎_elim, arith}
+use Rattle.std.proofs.Common.{◌≡◌, ℕ, zero, suc, ◌+◌, ◌-◌, ◌<◌, ◌≤◌, Bool, true, false, cond, ◌&&◌, eqb, leb, List, [], ◌∷◌, ◌++◌, map, length, get_or, ℤ, pos, ◌+ℤ◌, nat_abs, Some, None, sym, refl, ap, ◌∙◌, ⊎_elim, arith}
 use borrow.Author.Differences.{ints}
-use lib.IntN.{+ℤ_idl, +ℤ_idr}
 use Rattle.std.specs.List.{range_with_len, AllByRecursion as All}
 use Rattle.std.proofs.lemmas.List.FromFn.{map-range_with_len_more}
 use Rattle.std.proofs.lemmas.List.{get_or_past}
@@ -11,18 +10,18 @@ use Rattle.sharing.specs.Fair.{Fair}
 use Rattle.sharing.specs.Signed.{signed_parts}
 use Rattle.codes.specs.Codes.{basis_of}
 use Rattle.codes.specs.Sums.{sum_over}
-use Rattle.codes.specs.declared.code.Basis.TheVariants.{Own, Purchases}
+use Rattle.codes.specs.declared.code.Basis.TheVariants.{Purchases}
 use Rattle.codes.specs.declared.code.Code.{Code}
 use Rattle.codes.specs.declared.code.Code.TheVariants.{A1, A2, A3, A4, B1, B2, B3, B4, F1, F2, F3, F4, F5, F6}
-use Rattle.amounts.specs.Amounts.{Scope, first_lacking, lacking, scopes, shared, weights}
+use Rattle.amounts.specs.Amounts.{lacking, shared, weights}
 use Rattle.items.specs.Items.{fines, penalties}
 use Rattle.price_grid.specs.Found.{first_of}
 use Rattle.valuation.specs.Valid.{Sound}
 use Rattle.valuation.specs.declared.market.Market.TheVariants.{DayAhead, RealTime}
-use Rattle.bounds.proofs.Bounds.{all_fines_le, all_penalties_le, day_small, energy_size, fines_le, imbalance_size, penalties_le, reserve_size, shared_le, size, size_small}
+use Rattle.bounds.proofs.Bounds.{all_fines_le, all_penalties_le, day_small, energy_size, fines_le, imbalance_size, penalties_le, reserve_size, shared_le, size}
 use Rattle.amounts.proofs.Adding.{sum_push}
 use Rattle.bounds.proofs.Limits.{neg_le, sum_le}
-use Rattle.settlement.specs.Days.{day_cell, item, items, sheets}
+use Rattle.settlement.specs.Days.{item, items, sheets}
 use Rattle.settlement.specs.Sheets.{ByKind, amount_of, own, part, sheet, to_accounts, to_nobody}
 use Rattle.settlement.proofs.Lacking.{can_share, no_lack, weights_of}
 use Rattle.settlement.proofs.PartyRows.{nobody_has}

@@ -1,5 +1,5 @@
 -- The day's table: the sheets of all scopes added, and the items of the day.
-use Rattle.std.specs.Prelude.{◌≡◌, ℕ, cond, List, ℤ, pos, ◌+ℤ◌, neg_ℤ, Some, None, Ok, Err, Option, Result, ◌==◌, nat_lt}
+use Rattle.std.specs.Prelude.{◌≡◌, ℕ, cond, List, ℤ, ◌+ℤ◌, neg_ℤ, Some, None, Ok, Err, Option, Result, ◌==◌, nat_lt}
 use Rattle.faults.specs.Places.{at, fault_of}
 use Rattle.faults.specs.declared.fault.Fault.{Fault}
 use Rattle.faults.specs.declared.fault.Place.{Place}

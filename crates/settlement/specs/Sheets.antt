@@ -1,5 +1,5 @@
 -- The sheet of a scope: an amount for every code and party.
-use Rattle.std.specs.Prelude.{ℕ, ◌-◌, Bool, cond, ◌&&◌, List, ℤ, pos, neg_ℤ, ◌==◌, nat_le, slice_index_or}
+use Rattle.std.specs.Prelude.{ℕ, ◌-◌, cond, ◌&&◌, List, ℤ, pos, neg_ℤ, ◌==◌, nat_le, slice_index_or}
 use Rattle.dayfile.specs.Records.{Records}
 use Rattle.sharing.specs.Signed.{signed_parts}
 use Rattle.codes.specs.Codes.{basis_of}

@@ -1,8 +1,8 @@
 -- Sheets and days add up to zero, parts are near their proportions, and cells are small.
-use Rattle.std.proofs.Common.{◌≡◌, ℕ, zero, suc, ◌+◌, ◌-◌, ◌<◌, ◌≤◌, Bool, true, false, cond, ◌&&◌, eqb, leb, List, [], ◌∷◌, length, get_or, ℤ, pos, ◌+ℤ◌, ◌-ℤ◌, ◌*ℤ◌, neg_ℤ, nat_abs, None, sum, sym, refl, ap, ◌∙◌, subst, arith}
+use Rattle.std.proofs.Common.{◌≡◌, ℕ, zero, suc, ◌+◌, ◌-◌, ◌<◌, ◌≤◌, Bool, true, false, cond, ◌&&◌, eqb, leb, List, length, get_or, ℤ, pos, ◌+ℤ◌, ◌-ℤ◌, ◌*ℤ◌, neg_ℤ, nat_abs, sum, sym, refl, ap, ◌∙◌, subst, arith}
 use borrow.Author.Differences.{ints}
 use lib.IntN.{+ℤ_idl, +ℤ_idr}
-use Rattle.std.specs.List.{range_with_len, AllByRecursion as All}
+use Rattle.std.specs.List.{range_with_len}
 use Rattle.std.proofs.lemmas.Bool.{and_from, cond-true, le-leb}
 use Rattle.dayfile.specs.Records.{Records}
 use Rattle.dayfile.specs.declared.record.Interconnection.{Interconnection}
@@ -11,14 +11,14 @@ use Rattle.sharing.specs.Fair.{Fair}
 use Rattle.sharing.specs.Shareable.{shareable}
 use Rattle.sharing.specs.Signed.{signed_parts}
 use Rattle.sharing.proofs.SignedSums.{signed_whole}
-use Rattle.codes.specs.Codes.{all_codes, basis_of}
+use Rattle.codes.specs.Codes.{basis_of}
 use Rattle.codes.specs.Parties.{party_numbers}
 use Rattle.codes.specs.Sums.{sum_over, total}
 use Rattle.codes.specs.declared.code.Basis.{Basis}
 use Rattle.codes.specs.declared.code.Basis.TheVariants.{Own, Purchases}
 use Rattle.codes.specs.declared.code.Code.{Code}
 use Rattle.codes.specs.declared.code.Code.TheVariants.{A1, A2, A3, A4, B1, B2, B3, B4, F1, F2, F3, F4, F5, F6}
-use Rattle.amounts.specs.Amounts.{accounts, energy, exchange, imbalance, lacking, owned_by, reserve, scopes, shared, value_of_imbalance, weights}
+use Rattle.amounts.specs.Amounts.{accounts, energy, exchange, imbalance, lacking, reserve, scopes, shared, value_of_imbalance, weights}
 use Rattle.items.specs.Items.{all_fines, all_penalties, fines, penalties}
 use Rattle.valuation.specs.Terms.{exchange_term, fine_mils, imbalance_term, imbalance_value, market_price, net_export}
 use Rattle.valuation.specs.Valid.{Listed, Sound, ValidInterconnection}
@@ -26,7 +26,7 @@ use Rattle.valuation.specs.declared.market.Market.TheVariants.{DayAhead, RealTim
 use Rattle.amounts.proofs.Adding.{by_owner, sum_add, sum_neg, sum_same, sum_zero}
 use Rattle.bounds.proofs.Bounds.{weights_length}
 use Rattle.bounds.proofs.Facts.{all_map, sound_facts}
-use Rattle.settlement.specs.Days.{day_cell, item, items, sheets}
+use Rattle.settlement.specs.Days.{item, items, sheets}
 use Rattle.settlement_laws.specs.Laws.{CellsAreSmall, DaysBalance, PartsAreNear, SharesAreWhole, SheetsBalance}
 use Rattle.settlement.specs.Sheets.{ByKind, amount_of, on_basis, own, part, sheet, to_accounts}
 use Rattle.settlement.proofs.Lacking.{can_share, no_lack, weights_of}

@@ -1,12 +1,11 @@
 -- What holds of every sheet and of every settled day, under any fair rule, for the records of a sound book.
-use Rattle.std.specs.Prelude.{◌≡◌, ℕ, ◌-◌, ◌<◌, ◌≤◌, true, false, List, ℤ, pos, ◌-ℤ◌, ◌*ℤ◌, None, sum, ◌≢◌, slice_index, unsigned_abs}
+use Rattle.std.specs.Prelude.{◌≡◌, ℕ, ◌-◌, ◌<◌, ◌≤◌, true, false, List, pos, ◌-ℤ◌, ◌*ℤ◌, None, sum, ◌≢◌, slice_index, unsigned_abs}
 use Rattle.dayfile.specs.Records.{Records}
 use Rattle.sharing.specs.Fair.{Fair}
 use Rattle.book.specs.Soundness.{sound_records}
 use Rattle.codes.specs.Codes.{basis_of}
-use Rattle.codes.specs.Parties.{party_numbers}
 use Rattle.codes.specs.Sums.{sum_over, total}
-use Rattle.codes.specs.declared.code.Basis.TheVariants.{Own, Purchases}
+use Rattle.codes.specs.declared.code.Basis.TheVariants.{Own}
 use Rattle.codes.specs.declared.code.Code.{Code}
 use Rattle.amounts.specs.Amounts.{Scope, accounts, first_lacking, lacking, shared, weights}
 use Rattle.settlement.specs.Days.{day_cell}

@@ -1,8 +1,6 @@
 -- A signed amount that is shared by its magnitude.
-use Rattle.std.proofs.Common.{◌≡◌, ℕ, suc, ◌+◌, true, false, List, [], ◌∷◌, map, length, ℤ, pos, negsuc, ◌+ℤ◌, neg_ℤ, nat_abs, IfOk as made, Ok, Err, fold, sum, Result, sym, refl, ap, ◌∙◌, ⊎_elim}
+use Rattle.std.proofs.Common.{◌≡◌, ℕ, ◌+◌, true, List, [], ◌∷◌, map, length, ℤ, pos, negsuc, ◌+ℤ◌, neg_ℤ, nat_abs, IfOk as made, Ok, Err, fold, sum, Result, sym, refl, ap, ◌∙◌}
 use lib.IntN.{neg_ℤ-+ℤ}
-use Rattle.std.proofs.lemmas.Result.{IfOk-from_err}
-use Rattle.std.proofs.lemmas.Bool.{cases_Bool}
 use Rattle.faults.specs.declared.fault.Fault.{Fault}
 use Rattle.sharing.specs.Fair.{Fair}
 use Rattle.sharing.specs.Shareable.{admitted, not_shareable, share_answer, share_leaves, shareable}

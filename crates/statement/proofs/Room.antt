@@ -1,5 +1,5 @@
 -- Room that a statement always fits.
-use Rattle.std.proofs.Common.{◌≡◌, ℕ, ◌+◌, ◌-◌, ◌*◌, ◌<◌, ◌≤◌, Bool, true, false, cond, T, eqb, leb, List, [], ◌∷◌, ◌++◌, length, take, nat_abs, is_some, Some, None, decimal, Option, refl, ap, arith, length-append, length-take}
+use Rattle.std.proofs.Common.{◌≡◌, ℕ, ◌-◌, ◌*◌, ◌<◌, ◌≤◌, Bool, true, false, cond, T, eqb, leb, List, [], ◌∷◌, ◌++◌, length, take, nat_abs, is_some, Some, None, decimal, Option, refl, ap, arith, length-append, length-take}
 use Rattle.std.proofs.lemmas.Fmt.{length-decimal-le}
 use Rattle.std.proofs.lemmas.Bool.{and_parts, cond-true, le-leb, leb-true}
 use Rattle.std.specs.List.{flat_map}

@@ -1,5 +1,5 @@
 -- A table that passes its test: each row is right.
-use Rattle.std.proofs.Common.{◌≡◌, Bool, true, false, ◌&&◌, eqb, List, [], ◌∷◌, ℤ, pos, negsuc, refl, ap}
+use Rattle.std.proofs.Common.{◌≡◌, true, eqb, List, [], ◌∷◌, ℤ, pos, negsuc, refl, ap}
 use Rattle.std.proofs.ByRecursion.{all-has}
 use Rattle.std.proofs.lemmas.Bool.{and_parts, eqb-true, false≢true}
 use Rattle.std.specs.List.{ContainsAt as Has, AllByRecursion as All}

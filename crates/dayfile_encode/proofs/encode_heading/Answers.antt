@@ -1,4 +1,4 @@
-use Rattle.std.proofs.Common.{◌≡◌, sym, ap, ◌∙◌}
+use Rattle.std.proofs.Common.{sym, ap, ◌∙◌}
 use Rattle.std.specs.Option.{ok_or}
 use Rattle.faults.specs.Places.{plain}
 use Rattle.faults.specs.declared.refusal.Refusal.TheVariants.{OutOfRange}

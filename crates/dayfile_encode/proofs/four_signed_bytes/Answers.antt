@@ -1,4 +1,4 @@
-use Rattle.std.proofs.Common.{◌≡◌, ◌<◌, ap, ◌∙◌, arith, to_z-of_z, w32, Fits, to_z, of_z}
+use Rattle.std.proofs.Common.{◌≡◌, ap, ◌∙◌, to_z-of_z, w32, Fits, to_z, of_z}
 use mir.Facts.{Fits-of_z}
 use Rattle.decoding.specs.Fields.{signed_four_bytes}
 use Rattle.dayfile_encode.specs.Encoded.{in_four_signed}

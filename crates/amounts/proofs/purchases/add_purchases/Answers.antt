@@ -1,11 +1,11 @@
-use Rattle.std.proofs.Common.{◌≡◌, ℕ, ◌+◌, ◌-◌, ◌*◌, ◌<◌, ◌≤◌, cond, eqb, length, get_or, take, set, sym, refl, ap, ◌∙◌, arith, rules}
+use Rattle.std.proofs.Common.{◌≡◌, ◌+◌, ◌-◌, ◌≤◌, cond, eqb, length, get_or, ap, ◌∙◌, arith}
 use Rattle.std.proofs.ByRecursion.{All-get_or}
 use Rattle.std.proofs.lemmas.List.{take_all}
 use Rattle.std.proofs.lemmas.List.Sums.{sum_by_more}
 use Rattle.valuation.specs.Blanks.{no_position}
 use Rattle.valuation.specs.Valid.{ValidPosition}
 use Rattle.amounts.specs.Buying.{bought, bought_sum}
-use Rattle.amounts.proofs.Arrays.{cond_le, grown_at}
+use Rattle.amounts.proofs.Arrays.{cond_le}
 use Rattle.amounts.proofs.purchases.add_purchases.Goals as goal
 
 pub loop-x-init : goal.loop-x-init

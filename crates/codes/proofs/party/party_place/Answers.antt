@@ -1,4 +1,4 @@
-use Rattle.std.proofs.Common.{◌≡◌, ℕ, ◌<◌, IfSome, Option, sym, ap, ◌∙◌, subst, arith}
+use Rattle.std.proofs.Common.{◌≡◌, ℕ, ◌<◌, IfSome, Option, sym, ◌∙◌, subst, arith}
 use Rattle.codes.specs.Parties.{party_count, party_numbers, party_place}
 use Rattle.codes.proofs.Places.{by_kind, place_below}
 use Rattle.codes.proofs.party.party_place.Goals as goal

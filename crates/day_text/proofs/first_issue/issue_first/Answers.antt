@@ -1,7 +1,6 @@
-use Rattle.std.proofs.Common.{◌≡◌, ℕ, ◌≤◌, length, take, Ok, Err, sym, ap, ◌∙◌, arith, rules}
+use Rattle.std.proofs.Common.{◌≡◌, ℕ, ◌≤◌, length, Ok, ◌∙◌, arith}
 use Rattle.codes.specs.Cells.{cell_count}
 use Rattle.ledger.specs.Issues.{new_notes}
-use Rattle.ledger.specs.Notes.{sound_notes}
 use Rattle.day_text.proofs.First.{accepted, cells_within, few, in_front, none_sound, then_sound}
 use Rattle.day_text.proofs.first_issue.issue_first.Goals as goal
 

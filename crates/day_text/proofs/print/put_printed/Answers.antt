@@ -1,4 +1,3 @@
-use Rattle.std.proofs.Common.{◌≡◌}
 use Rattle.book.specs.Books.{held}
 use Rattle.loading.specs.Loading.{file_records}
 use Rattle.day_text.proofs.Printed.{accepted_load, err_answer}

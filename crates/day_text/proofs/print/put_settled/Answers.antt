@@ -1,10 +1,10 @@
-use Rattle.std.proofs.Common.{◌≡◌, length, take, None, ap, ◌∙◌, arith}
+use Rattle.std.proofs.Common.{◌≡◌, length, take, None, ap, ◌∙◌}
 use Rattle.book.specs.Books.{held}
 use Rattle.settlement.specs.Days.{Holds, day_cell, settle_refusal}
 use Rattle.sharing.specs.Running.{running}
 use Rattle.statement.specs.Statements.{statement_text}
 use Rattle.text.specs.Written.{left_if_fits}
-use Rattle.day_text.specs.Texts.{first_notes, settled_text}
+use Rattle.day_text.specs.Texts.{first_notes}
 use Rattle.day_text.proofs.Printed.{err_settled, filled, ok_settled, same_notes, small_cells}
 use Rattle.day_text.proofs.print.put_settled.Goals as goal
 

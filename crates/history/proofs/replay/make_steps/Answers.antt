@@ -1,9 +1,5 @@
-use Rattle.std.proofs.Common.{◌≡◌, ℕ, List, ◌∷◌, length, drop, vec_items, vec_len, sym, refl, ap, ◌∙◌, subst, arith, rules}
-use Rattle.book.specs.Books.{held}
-use Rattle.day.specs.Memory.{Memory, memory}
-use Rattle.history.specs.Events.{Lent, lent}
+use Rattle.std.proofs.Common.{◌≡◌, ℕ, length, drop, vec_items, refl, subst, arith, rules}
 use Rattle.history.specs.Replays.{Stopped, calls_in}
-use Rattle.history.specs.declared.states.Day.{Day}
 use Rattle.history.specs.declared.steps.Answer.TheVariants.{Done}
 use Rattle.history.proofs.Replaying.{ends, ran_on, step_more, stops}
 use Rattle.history.proofs.replay.make_steps.Goals as goal

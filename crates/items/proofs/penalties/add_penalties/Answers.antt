@@ -1,4 +1,4 @@
-use Rattle.std.proofs.Common.{◌≡◌, ℕ, ◌<◌, ◌≢◌, length, get_or, set, ℤ, pos, ◌+ℤ◌, sym, refl, ap, ◌∙◌, arith, get_or-set_other, get_or-set_same, w64, SFits, to_z, of_z, rules, below_more}
+use Rattle.std.proofs.Common.{◌≡◌, ◌<◌, ◌≢◌, length, get_or, ℤ, pos, ◌+ℤ◌, ap, ◌∙◌, arith, get_or-set_other, get_or-set_same, w64, SFits, to_z, of_z, rules, below_more}
 use borrow.Author.Differences.{ints}
 use Rattle.std.proofs.lemmas.Int.{to_z-of_z}
 use Rattle.items.specs.Items.{at_least_zero}

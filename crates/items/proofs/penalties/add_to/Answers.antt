@@ -1,4 +1,4 @@
-use Rattle.std.proofs.Common.{◌≡◌, ℕ, ◌-◌, get_or, set, ℤ, pos, ◌+ℤ◌, ap, ◌∙◌, arith, w64, to_z, of_z}
+use Rattle.std.proofs.Common.{◌≡◌, ◌-◌, get_or, set, ℤ, pos, ◌+ℤ◌, ap, ◌∙◌, arith, w64, to_z, of_z}
 use borrow.Author.Differences.{ints}
 use Rattle.amounts.proofs.Arrays.{grown_atℤ}
 use Rattle.items.proofs.penalties.add_to.Goals as goal

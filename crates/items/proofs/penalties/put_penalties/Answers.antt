@@ -1,11 +1,11 @@
-use Rattle.std.proofs.Common.{◌≡◌, ℕ, ◌+◌, ◌*◌, ◌<◌, ◌≤◌, length, get_or, take, ℤ, pos, ◌+ℤ◌, nat_abs, sym, refl, ap, ◌∙◌, subst, arith}
+use Rattle.std.proofs.Common.{◌≡◌, ℕ, ◌+◌, ◌<◌, ◌≤◌, length, get_or, pos, nat_abs, sym, ap, ◌∙◌, subst, arith}
 use borrow.Author.Differences.{ints}
 use Rattle.std.proofs.lemmas.List.{take_all}
 use Rattle.std.specs.List.{AllByRecursion as All}
 use Rattle.codes.specs.Sums.{sum_over}
 use Rattle.valuation.specs.Blanks.{no_failure}
 use Rattle.amounts.proofs.Adding.{sum_more}
-use Rattle.items.specs.Items.{at_least_zero, failed_among, penalty_among}
+use Rattle.items.specs.Items.{at_least_zero, penalty_among}
 use Rattle.items.proofs.AtLeastZero.{zero_le}
 use Rattle.items.proofs.penalties.put_penalties.Goals as goal
 

@@ -1,4 +1,4 @@
-use Rattle.std.proofs.Common.{◌≡◌, get_or, ap, ◌∙◌}
+use Rattle.std.proofs.Common.{get_or, ap, ◌∙◌}
 use Rattle.std.specs.Option.{option_map}
 use Rattle.closing.specs.Prices.{is_price_of}
 use Rattle.price_grid.specs.Blanks.{no_price}

@@ -1,4 +1,4 @@
-use Rattle.std.proofs.Common.{sym, ap, ◌∙◌, subst, arith}
+use Rattle.std.proofs.Common.{subst, arith}
 use Rattle.text.specs.Written.{Wrote}
 use Rattle.text.proofs.Writing.{none}
 use Rattle.script.specs.Sheets.{line_of}

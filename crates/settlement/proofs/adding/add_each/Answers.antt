@@ -1,9 +1,8 @@
-use Rattle.std.proofs.Common.{◌≡◌, ℕ, ◌+◌, ◌*◌, ◌≤◌, get_or, take, ℤ, pos, ◌+ℤ◌, nat_abs, sym, refl, ap, ◌∙◌, subst, arith, w64}
+use Rattle.std.proofs.Common.{◌≡◌, ℕ, ◌+◌, take, ◌+ℤ◌, sym, refl, ap, ◌∙◌, subst, arith, w64}
 use borrow.Author.Differences.{ints}
 use Rattle.std.proofs.ByRecursion.{All-get_or}
 use Rattle.std.proofs.lemmas.List.{take_all}
 use Rattle.std.proofs.lemmas.Int.{to_z-of_z}
-use Rattle.codes.specs.Cells.{cell}
 use Rattle.codes.specs.Sums.{sum_over}
 use Rattle.amounts.specs.Amounts.{owned_by}
 use Rattle.amounts.proofs.Adding.{sum_more}

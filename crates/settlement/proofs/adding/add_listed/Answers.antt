@@ -1,4 +1,4 @@
-use Rattle.std.proofs.Common.{◌≡◌, ℕ, ◌+◌, get_or, ℤ, pos, ◌+ℤ◌, nat_abs, sym, refl, ap, ◌∙◌, arith, w64, SFits, rules}
+use Rattle.std.proofs.Common.{◌≡◌, ◌+◌, get_or, pos, ◌+ℤ◌, sym, ap, ◌∙◌, arith, w64, SFits, rules}
 use borrow.Author.Differences.{ints}
 use Rattle.std.proofs.lemmas.Int.{to_z-of_z}
 use Rattle.amounts.specs.Amounts.{owned_by}

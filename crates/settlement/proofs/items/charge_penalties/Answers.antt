@@ -1,4 +1,4 @@
-use Rattle.std.proofs.Common.{◌≡◌, ℕ, ◌+◌, ◌-◌, ◌<◌, ◌≤◌, cond, ◌&&◌, leb, length, get_or, ℤ, pos, neg_ℤ, nat_abs, sym, refl, ap, ◌∙◌, arith}
+use Rattle.std.proofs.Common.{◌≡◌, ℕ, ◌+◌, ◌-◌, ◌<◌, ◌≤◌, cond, ◌&&◌, leb, length, get_or, pos, neg_ℤ, sym, ap, ◌∙◌, arith}
 use Rattle.book.specs.Books.{held}
 use Rattle.items.specs.Items.{penalties}
 use Rattle.bounds.proofs.Limits.{neg_le}

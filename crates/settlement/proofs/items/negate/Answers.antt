@@ -1,4 +1,4 @@
-use Rattle.std.proofs.Common.{◌≡◌, ◌<◌, ◌≢◌, length, get_or, ℤ, pos, ◌-ℤ◌, neg_ℤ, ap, ◌∙◌, arith, get_or-set_other, get_or-set_same, w64, to_z, of_z, rules, below_more}
+use Rattle.std.proofs.Common.{◌≡◌, ◌<◌, ◌≢◌, length, get_or, ℤ, pos, ◌-ℤ◌, neg_ℤ, ◌∙◌, arith, get_or-set_other, get_or-set_same, w64, to_z, of_z, below_more}
 use borrow.Author.Differences.{ints}
 use Rattle.settlement.proofs.items.negate.Goals as goal
 

@@ -1,4 +1,4 @@
-use Rattle.std.proofs.Common.{◌≡◌, ℕ, ◌≤◌, cond, eqb, List, length, ℤ, pos, neg_ℤ, sym, ap, ◌∙◌, subst, arith}
+use Rattle.std.proofs.Common.{◌≤◌, cond, eqb, List, length, ℤ, pos, neg_ℤ, sym, ◌∙◌, subst, arith}
 use Rattle.std.specs.List.{AllByRecursion as All}
 use Rattle.dayfile.specs.declared.record.Interconnection.{Interconnection}
 use Rattle.book.specs.Books.{held}
@@ -6,9 +6,8 @@ use Rattle.codes.specs.Parties.{system_party}
 use Rattle.codes.specs.Sums.{sum_over}
 use Rattle.valuation.specs.Terms.{imbalance_term}
 use Rattle.valuation.specs.Valid.{ValidInterconnection}
-use Rattle.amounts.specs.Amounts.{imbalance, owned_by}
+use Rattle.amounts.specs.Amounts.{owned_by}
 use Rattle.bounds.proofs.Facts.{all_map}
-use Rattle.settlement.specs.Sheets.{amount_of, to_systems}
 use Rattle.settlement.proofs.PartyRows.{negated, system_row, systems_same}
 use Rattle.settlement.proofs.Rows.{row_as}
 use Rattle.settlement.proofs.own.add_imbalance.Goals as goal

@@ -1,9 +1,9 @@
-use Rattle.std.proofs.Common.{◌≡◌, ℕ, ◌+◌, ◌<◌, ◌≤◌, false, ◌+ℤ◌, nat_abs, sym, ap, ◌∙◌, subst, arith}
+use Rattle.std.proofs.Common.{◌≡◌, ℕ, ◌+◌, ◌<◌, ◌≤◌, false, ◌+ℤ◌, sym, ap, ◌∙◌, arith}
 use Rattle.std.specs.List.{range_with_len}
 use Rattle.book.specs.Books.{held}
 use Rattle.codes.proofs.Puts.{empty_cell}
 use Rattle.amounts.specs.Amounts.{lacking}
-use Rattle.settlement.specs.Days.{Holds, sheets}
+use Rattle.settlement.specs.Days.{sheets}
 use Rattle.settlement.specs.Sheets.{sheet}
 use Rattle.settlement.proofs.Small.{none_then, sheets_le, sheets_more}
 use Rattle.settlement.proofs.settle.add_sheets.Goals as goal

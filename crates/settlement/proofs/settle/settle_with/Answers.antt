@@ -1,4 +1,4 @@
-use Rattle.std.proofs.Common.{◌≡◌, ℕ, ◌+◌, ◌<◌, ◌≤◌, false, ◌+ℤ◌, nat_abs, Some, None, Option, sym, refl, ap, ◌∙◌, subst, arith}
+use Rattle.std.proofs.Common.{◌≡◌, ℕ, ◌+◌, ◌<◌, ◌≤◌, false, ◌+ℤ◌, None, Option, sym, ap, ◌∙◌, subst, arith}
 use Rattle.book.specs.Books.{held}
 use Rattle.amounts.specs.Amounts.{first_lacking, lacking}
 use Rattle.settlement.specs.Days.{Filled, day_cell, item, lacking_fault, outcome}

@@ -1,4 +1,4 @@
-use Rattle.std.proofs.Common.{◌≡◌, ℕ, ◌-◌, true, cond, ◌&&◌, leb, List, length, get_or, ℤ, pos, nat_abs, sym, refl, ap, ◌∙◌, subst, arith, w64, to_z, of_z}
+use Rattle.std.proofs.Common.{◌≡◌, ◌-◌, cond, ◌&&◌, leb, length, get_or, pos, nat_abs, sym, ap, ◌∙◌, arith, w64, to_z, of_z}
 use Rattle.std.proofs.lemmas.Int.{to_z-of_z}
 use Rattle.book.specs.Books.{held}
 use Rattle.sharing.specs.Shareable.{shareable}

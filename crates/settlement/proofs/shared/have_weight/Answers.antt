@@ -1,4 +1,4 @@
-use Rattle.std.proofs.Common.{◌≡◌, sum, sym, refl, ap, ◌∙◌, arith}
+use Rattle.std.proofs.Common.{sum, sym, ap, arith}
 use Rattle.std.proofs.lemmas.List.{take_all}
 use Rattle.std.proofs.lemmas.List.Sums.{get_or-le-sum_by, sum_by_more}
 use Rattle.std.proofs.lemmas.Bool.{le-ltb, lt-ltb}

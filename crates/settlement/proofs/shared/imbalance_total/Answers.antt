@@ -1,4 +1,4 @@
-use Rattle.std.proofs.Common.{◌≡◌, ℕ, ◌≤◌, cond, eqb, List, length, pos, sym, ap, ◌∙◌, subst, arith, w64}
+use Rattle.std.proofs.Common.{◌≤◌, cond, eqb, List, length, pos, sym, ◌∙◌, subst, arith, w64}
 use Rattle.std.specs.List.{AllByRecursion as All}
 use Rattle.std.proofs.lemmas.Int.{to_z-of_z}
 use Rattle.dayfile.specs.declared.record.Interconnection.{Interconnection}

@@ -1,4 +1,4 @@
-use Rattle.std.proofs.Common.{◌≡◌, ℕ, ◌≤◌, cond, eqb, List, length, pos, sym, ap, ◌∙◌, subst, arith, w64}
+use Rattle.std.proofs.Common.{◌≤◌, cond, eqb, List, length, pos, sym, ◌∙◌, subst, arith, w64}
 use Rattle.std.specs.List.{AllByRecursion as All}
 use Rattle.std.proofs.lemmas.Int.{to_z-of_z}
 use Rattle.dayfile.specs.declared.record.Reserve.{Reserve}
@@ -7,7 +7,6 @@ use Rattle.codes.specs.Sums.{sum_over}
 use Rattle.valuation.specs.Terms.{reserve_term}
 use Rattle.valuation.specs.Valid.{ValidReserve}
 use Rattle.bounds.proofs.Bounds.{all_reserve, all_reserve_le, size_small}
-use Rattle.bounds.proofs.Facts.{all_map}
 use Rattle.settlement.proofs.shared.reserve_total.Goals as goal
 
 pub sum_of-requires : goal.sum_of-requires

@@ -1,4 +1,4 @@
-use Rattle.std.proofs.Common.{◌≡◌, ap, ◌∙◌, arith}
+use Rattle.std.proofs.Common.{ap, ◌∙◌, arith}
 use Rattle.book.specs.Books.{held}
 use Rattle.codes.specs.Codes.{code_index}
 use Rattle.codes.proofs.Laws.{index_at}

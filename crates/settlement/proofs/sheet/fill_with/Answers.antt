@@ -1,4 +1,4 @@
-use Rattle.std.proofs.Common.{◌≡◌, Bool, false, cond, Some, None, sym, refl, ap, ◌∙◌, subst}
+use Rattle.std.proofs.Common.{◌≡◌, Bool, false, cond, Some, None, sym, ap, ◌∙◌, subst}
 use Rattle.book.specs.Books.{held}
 use Rattle.amounts.specs.Amounts.{lacking}
 use Rattle.settlement.specs.Days.{Filled, no_purchases, outcome}

@@ -1,7 +1,4 @@
-use Rattle.std.proofs.Common.{◌≡◌, nat_abs}
 use Rattle.std.proofs.lemmas.Int.{to_z-of_z}
-use Rattle.sharing.specs.Shareable.{share_answer}
-use Rattle.sharing.specs.Signed.{signed_leaves}
 use Rattle.sharing.proofs.SignedSums.{signed_made}
 use Rattle.sharing.proofs.signed.share_signed.Goals as goal
 

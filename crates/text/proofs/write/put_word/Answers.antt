@@ -1,4 +1,4 @@
-use Rattle.std.proofs.Common.{[], ◌∷◌, decimal, arith}
+use Rattle.std.proofs.Common.{[], ◌∷◌, decimal}
 use Rattle.text.proofs.Writing.{after}
 use Rattle.text.proofs.write.put_word.Goals as goal
 

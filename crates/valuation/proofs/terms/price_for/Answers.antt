@@ -1,4 +1,4 @@
-use Rattle.std.proofs.Common.{◌≡◌, sym, refl, ap, ◌∙◌, subst}
+use Rattle.std.proofs.Common.{sym, ◌∙◌, subst}
 use Rattle.valuation.proofs.Prices.{ValidFound, found_valid}
 use Rattle.valuation.proofs.terms.price_for.Goals as goal
 

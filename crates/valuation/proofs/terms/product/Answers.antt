@@ -1,4 +1,4 @@
-use Rattle.std.proofs.Common.{◌≡◌, ◌*◌, ◌≤◌, ◌*ℤ◌, nat_abs, ap, ◌∙◌, arith, w64, SFits, to_z, of_z}
+use Rattle.std.proofs.Common.{◌*◌, ◌≤◌, ◌*ℤ◌, nat_abs, arith, w64, SFits}
 use Rattle.std.proofs.lemmas.Int.{to_z-of_z}
 use Rattle.valuation.proofs.Products.{product_le, fits_w64}
 use Rattle.valuation.proofs.terms.product.Goals as goal

@@ -1,8 +1,8 @@
-use Rattle.std.proofs.Common.{◌≡◌, ◌+◌, ◌*◌, length, set, Some, None, sym, refl, ap, ◌∙◌, arith, w64, rules}
+use Rattle.std.proofs.Common.{◌≡◌, ◌+◌, ◌*◌, length, set, Some, sym, ap, ◌∙◌, w64, rules}
 use Rattle.std.proofs.lemmas.Int.{to_z-of_z}
 use Rattle.codes.specs.Cells.{cell_count}
 use Rattle.codes.specs.Parties.{party_count, party_place}
-use Rattle.codes.proofs.Puts.{put_nowhere, put_somewhere}
+use Rattle.codes.proofs.Puts.{put_somewhere}
 use Rattle.codes.proofs.table.Table.put.Goals as goal
 
 pub returns-in-Some : goal.returns-in-Some

@@ -1,8 +1,8 @@
-use Rattle.std.proofs.Common.{◌≡◌, ◌<◌, true, length, sum, sym, refl, ap, ◌∙◌, arith}
+use Rattle.std.proofs.Common.{◌≡◌, length, sum, sym, ◌∙◌, arith}
 use Rattle.std.proofs.lemmas.Result.{err_from_is_err_and}
 use Rattle.sharing.specs.LargestRemainder.{largest_remainder}
-use Rattle.sharing.specs.Shareable.{admitted, not_shareable, shareable}
-use Rattle.sharing.specs.Admitted.{admitted_parts, answers, facts, ok_of, refuses, zero_parts}
+use Rattle.sharing.specs.Shareable.{admitted, not_shareable}
+use Rattle.sharing.specs.Admitted.{admitted_parts, answers, ok_of, refuses, zero_parts}
 use Rattle.sharing.specs.LargestFair.{largest_remainder_fair}
 use Rattle.sharing.proofs.largest_remainder.LargestRemainderSharing.share.Goals as goal
 
