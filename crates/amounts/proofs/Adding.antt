@@ -2,7 +2,7 @@
 use Rattle.std.proofs.Common.{◌≡◌, ℕ, zero, suc, ◌+◌, ◌<◌, ◌≤◌, true, false, eqb, List, [], ◌∷◌, ◌++◌, length, get_or, take, ℤ, pos, ◌+ℤ◌, neg_ℤ, sym, refl, ap, ◌∙◌, ⊎_elim, arith}
 use borrow.Author.Differences.{ints}
 use lib.IntN.{+ℤ_assoc, +ℤ_idl, +ℤ_idr}
-use Rattle.std.specs.List.{range_with_len, AllByRecursion as All}
+use Rattle.std.specs.List.{range_with_len, AllByRecursion}
 use Rattle.std.proofs.lemmas.List.{take_more}
 use Rattle.std.proofs.lemmas.Bool.{cases_eq, eq-eqb, ne_eqb}
 use Rattle.codes.specs.Sums.{sum_over}
@@ -23,7 +23,7 @@ sum_same f g h [] = refl
 sum_same f g h (x ∷ xs) = λ i. h x i +ℤ sum_same f g h xs i
 
 -- equal at every element of the list
-pub sum_same_all : {X : Type 0} (f g : X → ℤ) (xs : List X) → All (λ x. f x ≡ g x) xs → sum_over f xs ≡ sum_over g xs
+pub sum_same_all : {X : Type 0} (f g : X → ℤ) (xs : List X) → AllByRecursion (λ x. f x ≡ g x) xs → sum_over f xs ≡ sum_over g xs
 sum_same_all f g [] h = refl
 sum_same_all f g (x ∷ xs) h = λ i. h.0 i +ℤ sum_same_all f g xs h.1 i
 
@@ -56,7 +56,7 @@ one_owner owner v a (suc n) h k =
     (cases_eq owner a)
 
 -- a sum by owners is the whole sum, if every owner is counted
-pub by_owner : {X : Type 0} (owner : X → ℕ) (f : X → ℤ) (a n : ℕ) (xs : List X) → All (λ x. (a ≤ owner x) × (owner x < a + n)) xs
+pub by_owner : {X : Type 0} (owner : X → ℕ) (f : X → ℤ) (a n : ℕ) (xs : List X) → AllByRecursion (λ x. (a ≤ owner x) × (owner x < a + n)) xs
     → sum_over (λ k. sum_over (λ x. owned_by (owner x) k (f x)) xs) (range_with_len a n) ≡ sum_over f xs
 by_owner owner f a n [] h = sum_zero (range_with_len a n)
 by_owner owner f a n (x ∷ xs) h =
@@ -64,7 +64,7 @@ by_owner owner f a n (x ∷ xs) h =
     ∙ (λ i. one_owner (owner x) (f x) a n h.0.0 h.0.1 i +ℤ by_owner owner f a n xs h.1 i)
 
 -- one that owns nothing in the list
-pub owns_nothing : {X : Type 0} (owner : X → ℕ) (f : X → ℤ) (k : ℕ) (xs : List X) → All (λ x. owner x ≡ k → ⊥) xs → sum_over (λ x. owned_by (owner x) k (f x)) xs ≡ pos 0
+pub owns_nothing : {X : Type 0} (owner : X → ℕ) (f : X → ℤ) (k : ℕ) (xs : List X) → AllByRecursion (λ x. owner x ≡ k → ⊥) xs → sum_over (λ x. owned_by (owner x) k (f x)) xs ≡ pos 0
 owns_nothing owner f k [] h = refl
 owns_nothing owner f k (x ∷ xs) h =
     let e : eqb (owner x) k ≡ false = ne_eqb (owner x) k h.0 in

@@ -1,6 +1,6 @@
 // Physical purchases of the accounts in an hour.
 ghost use Rattle.std.specs.Prelude.{◌≡◌, ℕ, ◌+◌, ◌-◌, ◌<◌, ◌≤◌, length, if◌then◌else◌, nat_eq, slice_index};
-ghost use Rattle.std.specs.List.{AllByRecursion as All};
+ghost use Rattle.std.specs.List.{AllByRecursion};
 ghost use Rattle.valuation.specs.Valid.{ValidPosition};
 ghost use Rattle.amounts.specs.Amounts.{accounts};
 ghost use Rattle.amounts.specs.Buying.{bought, bought_sum, bought_sums};
@@ -42,8 +42,8 @@ fn add_to(weights: &mut [u64], account: u8, kwh: u64)
 // Adds each position's purchase to its account's weight, in one pass.
 fn add_purchases(positions: &[Position], hour: u8, weights: &mut [u64])
     requires few { length positions.now ≤ 1000 }
-    requires valid { All ValidPosition positions.now }
-    requires listed { All (λ x. (1 ≤ x.account) × (x.account ≤ length weights.old)) positions.now }
+    requires valid { AllByRecursion ValidPosition positions.now }
+    requires listed { AllByRecursion (λ x. (1 ≤ x.account) × (x.account ≤ length weights.old)) positions.now }
     requires clear { (k : ℕ) → k < length weights.old → slice_index weights.old k ≡ 0 }
     ensures { (k : ℕ) → k < length weights.new → slice_index weights.new k ≡ bought_sum hour (k + 1) positions.now }
 {
@@ -55,8 +55,8 @@ fn add_purchases(positions: &[Position], hour: u8, weights: &mut [u64])
 // Writes the physical purchases of each account, account 1 first.
 pub fn put_purchases(positions: &[Position], hour: u8, weights: &mut [u64])
     requires few { length positions.now ≤ 1000 }
-    requires valid { All ValidPosition positions.now }
-    requires listed { All (λ x. (1 ≤ x.account) × (x.account ≤ length weights.old)) positions.now }
+    requires valid { AllByRecursion ValidPosition positions.now }
+    requires listed { AllByRecursion (λ x. (1 ≤ x.account) × (x.account ≤ length weights.old)) positions.now }
     ensures { weights.new ≡ bought_sums hour (length weights.old) positions.now }
 {
     clear(weights);

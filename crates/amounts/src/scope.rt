@@ -1,6 +1,6 @@
 // What a record adds to the amounts of an hour: its term where it is of the hour, and 0 where not.
 ghost use Rattle.std.specs.Prelude.{pos, neg_ℤ, if◌then◌else◌, nat_eq};
-ghost use Rattle.std.specs.List.{AllByRecursion as All};
+ghost use Rattle.std.specs.List.{AllByRecursion};
 ghost use Rattle.valuation.specs.Terms.{exchange_term, imbalance_term, imbalance_value, position_term, reserve_term};
 ghost use Rattle.valuation.specs.Valid.{ValidInterconnection, ValidPosition, ValidPrice, ValidReserve};
 
@@ -23,7 +23,7 @@ pub struct EnergyOf<'a> {
 impl<'a> Term<Position> for EnergyOf<'a> {
     ghost adds = { λ s x. (if nat_eq x.hour s.hour then position_term s.prices.now.prices.now s.market x else pos 0) };
 
-    ghost valid = { λ s x. All ValidPrice s.prices.now.prices.now × ValidPosition x };
+    ghost valid = { λ s x. AllByRecursion ValidPrice s.prices.now.prices.now × ValidPosition x };
 
     fn term(&self, x: &Position) -> i64 {
         if x.hour == self.hour {
@@ -66,7 +66,7 @@ pub struct ExchangeOf<'a> {
 impl<'a> Term<Interconnection> for ExchangeOf<'a> {
     ghost adds = { λ s x. (if nat_eq x.hour s.hour then exchange_term s.prices.now.prices.now s.market x else pos 0) };
 
-    ghost valid = { λ s x. All ValidPrice s.prices.now.prices.now × ValidInterconnection x };
+    ghost valid = { λ s x. AllByRecursion ValidPrice s.prices.now.prices.now × ValidInterconnection x };
 
     fn term(&self, x: &Interconnection) -> i64 {
         if x.hour == self.hour {
@@ -87,7 +87,7 @@ pub struct ImbalanceValueOf<'a> {
 impl<'a> Term<Interconnection> for ImbalanceValueOf<'a> {
     ghost adds = { λ s x. (if nat_eq x.hour s.hour then imbalance_value s.prices.now.prices.now x else pos 0) };
 
-    ghost valid = { λ s x. All ValidPrice s.prices.now.prices.now × ValidInterconnection x };
+    ghost valid = { λ s x. AllByRecursion ValidPrice s.prices.now.prices.now × ValidInterconnection x };
 
     fn term(&self, x: &Interconnection) -> i64 {
         if x.hour == self.hour {

@@ -1,6 +1,6 @@
 // One loop for every sum over records.
 ghost use Rattle.std.specs.Prelude.{◌≡◌, ℕ, ◌≤◌, length, ℤ, unsigned_abs};
-ghost use Rattle.std.specs.List.{AllByRecursion as All};
+ghost use Rattle.std.specs.List.{AllByRecursion};
 ghost use Rattle.codes.specs.Sums.{sum_over};
 
 // What a record adds to a sum.
@@ -18,7 +18,7 @@ pub trait Term<X> {
 
 pub fn sum_of<X, T: Term<X>>(t: &T, xs: &[X]) -> i64
     requires few { length xs.now ≤ 1000 }
-    requires valid { All (T.Term.valid t.now) xs.now }
+    requires valid { AllByRecursion (T.Term.valid t.now) xs.now }
     ensures { result ≡ sum_over (T.Term.adds t.now) xs.now }
 {
     let mut total: i64 = 0;

@@ -1,7 +1,7 @@
 -- How large the amounts of a scope can be, for the records of a sound book.
 use Rattle.std.proofs.Common.{◌≡◌, ℕ, ◌+◌, ◌≤◌, Bool, true, false, cond, ◌&&◌, eqb, List, length, ℤ, pos, ◌+ℤ◌, ◌-ℤ◌, ◌*ℤ◌, neg_ℤ, nat_abs, Some, None, sum_by, sum, Option, arith}
 use borrow.Author.Differences.{ints}
-use Rattle.std.specs.List.{range_with_len, AllByRecursion as All}
+use Rattle.std.specs.List.{range_with_len, AllByRecursion}
 use Rattle.std.proofs.lemmas.List.FromFn.{length-map-range_with_len}
 use Rattle.std.proofs.lemmas.List.Sums.{sum-map}
 use Rattle.dayfile.specs.Records.{Records}
@@ -17,7 +17,7 @@ use Rattle.codes.specs.declared.code.Basis.TheVariants.{Purchases}
 use Rattle.codes.specs.declared.code.Code.{Code}
 use Rattle.codes.specs.declared.code.Code.TheVariants.{A1, A2, A3, A4, B1, B2, B3, B4, F1, F2, F3, F4, F5, F6}
 use Rattle.amounts.specs.Amounts.{accounts, energy, exchange, imbalance, owned_by, purchases, reserve, shared, value_of_imbalance, weights}
-use Rattle.items.specs.Items.{all_fines, failed_among, failing, fines, penalties, penalty_among}
+use Rattle.charges.specs.Items.{all_fines, failed_among, failing, fines, penalties, penalty_among}
 use Rattle.price_grid.specs.Found.{price_at}
 use Rattle.valuation.specs.Terms.{class_sign, exchange_energy, exchange_term, failed_term, fine_mils, imbalance_term, imbalance_value, market_price, net_export, position_energy, position_term, price_in, purchase, reserve_energy, reserve_price, reserve_term}
 use Rattle.valuation.specs.Valid.{Listed, Sound, ValidFine, ValidInterconnection, ValidPosition, ValidPrice, ValidReserve}
@@ -25,7 +25,7 @@ use Rattle.valuation.specs.declared.market.Market.{Market}
 use Rattle.valuation.specs.declared.market.Market.TheVariants.{DayAhead, RealTime}
 use Rattle.amounts.proofs.Adding.{by_owner}
 use Rattle.amounts.proofs.Arrays.{cond_le}
-use Rattle.items.proofs.AtLeastZero.{zero_le}
+use Rattle.charges.proofs.AtLeastZero.{zero_le}
 use Rattle.bounds.proofs.Facts.{all_map}
 use Rattle.bounds.proofs.Limits.{all_any, by_key_le, const_le, counted_le, nat_abs_add, neg_le, none_by, owned_counted_le, sub_le, sum_le, sum_by_add, sum_by_mono, swap, times_by}
 use Rattle.valuation.proofs.Prices.{ValidFound, found_valid}
@@ -37,7 +37,7 @@ price_in_le RealTime (Some p) v = v.real
 price_in_le DayAhead None v = omega arith
 price_in_le RealTime None v = omega arith
 
-price_le : (ps : List Price) (market : Market) (node hour : ℕ) → All ValidPrice ps → nat_abs (market_price ps market node hour) ≤ 10000000
+price_le : (ps : List Price) (market : Market) (node hour : ℕ) → AllByRecursion ValidPrice ps → nat_abs (market_price ps market node hour) ≤ 10000000
 price_le ps market node hour v = price_in_le market (price_at ps node hour) (found_valid ps node hour v)
 
 energy_le : (market : Market) (x : Position) → ValidPosition x → nat_abs (position_energy market x) ≤ 2000000
@@ -50,7 +50,7 @@ sign_le Load = omega arith
 sign_le Import = omega arith
 sign_le Export = omega arith
 
-position_le : (ps : List Price) (market : Market) (x : Position) → All ValidPrice ps → ValidPosition x → nat_abs (position_term ps market x) ≤ 20000000000000
+position_le : (ps : List Price) (market : Market) (x : Position) → AllByRecursion ValidPrice ps → ValidPosition x → nat_abs (position_term ps market x) ≤ 20000000000000
 position_le ps market x v w =
     term_le (class_sign x.class) (market_price ps market x.node x.hour) (position_energy market x) (sign_le x.class) (price_le ps market x.node x.hour v) (energy_le market x w)
 
@@ -73,7 +73,7 @@ exchange_energy_le : (market : Market) (x : Interconnection) → ValidInterconne
 exchange_energy_le DayAhead x v = omega (arith, flow_le DayAhead x v)
 exchange_energy_le RealTime x v = omega (arith, ints, flow_le DayAhead x v, flow_le RealTime x v)
 
-exchange_le : (ps : List Price) (market : Market) (x : Interconnection) → All ValidPrice ps → ValidInterconnection x → nat_abs (exchange_term ps market x) ≤ 80000000000000
+exchange_le : (ps : List Price) (market : Market) (x : Interconnection) → AllByRecursion ValidPrice ps → ValidInterconnection x → nat_abs (exchange_term ps market x) ≤ 80000000000000
 exchange_le ps market x v w =
     omega (arith, product_le 10000000 4000000 (market_price ps market x.node x.hour) (exchange_energy market x) (price_le ps market x.node x.hour v) (exchange_energy_le market x w))
 
@@ -83,7 +83,7 @@ imbalance_le x v = product_le 10000000 2000000 x.imbalance_price (net_export Rea
 four : (a b c d : ℤ) (n : ℕ) → nat_abs a ≤ n → nat_abs b ≤ n → nat_abs c ≤ n → nat_abs d ≤ n → nat_abs (a +ℤ b -ℤ c -ℤ d) ≤ n + n + n + n
 four a b c d n p q r s = omega (arith, ints)
 
-value_le : (ps : List Price) (x : Interconnection) → All ValidPrice ps → ValidInterconnection x → nat_abs (imbalance_value ps x) ≤ 80000000000000
+value_le : (ps : List Price) (x : Interconnection) → AllByRecursion ValidPrice ps → ValidInterconnection x → nat_abs (imbalance_value ps x) ≤ 80000000000000
 value_le ps x v w =
     let by : (t u : Market) → nat_abs (market_price ps t x.node x.hour *ℤ net_export u x) ≤ 20000000000000 =
     λ t u. product_le 10000000 2000000 (market_price ps t x.node x.hour) (net_export u x) (price_le ps t x.node x.hour v) (flow_le u x w) in

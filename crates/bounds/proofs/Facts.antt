@@ -1,7 +1,7 @@
 -- What is known of the records of a sound book.
 use Rattle.std.proofs.Common.{◌≡◌, ℕ, suc, ◌+◌, ◌≤◌, Bool, true, false, cond, not, ◌&&◌, T, eqb, leb, List, [], ◌∷◌, ◌++◌, length, ℤ, pos, negsuc, nat_abs, is_some, Some, None, sum_by, Option, sym, refl, ap, ◌∙◌, ⊎_elim, arith}
 use Rattle.std.specs.Option.{option_map}
-use Rattle.std.specs.List.{AllByRecursion as All}
+use Rattle.std.specs.List.{AllByRecursion}
 use Rattle.std.proofs.lemmas.List.{append_assoc, append-nil, length_push}
 use Rattle.std.proofs.lemmas.List.Sums.{sum_by-cons, sum_by_push}
 use Rattle.std.proofs.lemmas.Bool.{and_parts, cases_Bool, eqb-true, false≢true, leb-false, leb-true, true≢false}
@@ -20,7 +20,7 @@ use Rattle.rows.specs.Tables.{Terms, first_place, row_refusal, sound_table, take
 use Rattle.book.specs.Soundness.{sound_records}
 use Rattle.valuation.specs.Valid.{Listed, Sound, ValidFine, ValidInterconnection, ValidPosition, ValidPrice, ValidReserve}
 
-pub all_map : {X : Type 0} (P Q : X → Type 0) → ((x : X) → P x → Q x) → (xs : List X) → All P xs → All Q xs
+pub all_map : {X : Type 0} (P Q : X → Type 0) → ((x : X) → P x → Q x) → (xs : List X) → AllByRecursion P xs → AllByRecursion Q xs
 all_map P Q f [] h = tt
 all_map P Q f (x ∷ xs) h = (f x h.0, all_map P Q f xs h.1)
 
@@ -43,7 +43,7 @@ module _ {X : Type 0} (t : Terms X) (h : Heading) where
   rest : (before : List X) (x : X) (xs : List X) → taken_after t h before (x ∷ xs) ≡ true → taken_after t h (before ++ x ∷ []) xs ≡ true
   rest before x xs e = (and_parts (not (is_some (row_refusal t h before x))) (taken_after t h (before ++ x ∷ []) xs) e).1
 
-  each : (before xs : List X) → taken_after t h before xs ≡ true → All (λ x. (t.in_range x ≡ true) × (t.listed h x ≡ true)) xs
+  each : (before xs : List X) → taken_after t h before xs ≡ true → AllByRecursion (λ x. (t.in_range x ≡ true) × (t.listed h x ≡ true)) xs
   each before [] e = tt
   each before (x ∷ xs) e =
       let p = first before x xs e in

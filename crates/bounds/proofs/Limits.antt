@@ -1,7 +1,7 @@
 -- How large sums can be.
 use Rattle.std.proofs.Common.{◌≡◌, ℕ, zero, suc, ◌+◌, ◌*◌, ◌<◌, ◌≤◌, Bool, true, false, cond, eqb, List, [], ◌∷◌, length, ℤ, pos, ◌+ℤ◌, ◌-ℤ◌, neg_ℤ, nat_abs, sum_by, sym, refl, ap, ◌∙◌, ⊎_elim, add-mul, zero-mul, arith}
 use borrow.Author.Differences.{ints}
-use Rattle.std.specs.List.{range_with_len, AllByRecursion as All}
+use Rattle.std.specs.List.{range_with_len, AllByRecursion}
 use Rattle.std.proofs.lemmas.List.Sums.{sum_by-cons}
 use Rattle.std.proofs.lemmas.Bool.{cases_eq, eq-eqb, ne_eqb}
 use Rattle.codes.specs.Sums.{sum_over}
@@ -16,11 +16,11 @@ pub sub_le : (y z : ℤ) (m n : ℕ) → nat_abs y ≤ m → nat_abs z ≤ n →
 sub_le y z m n h k = omega (arith, ints)
 
 -- a sum is at most the sum of what bounds its terms
-pub sum_le : {X : Type 0} (f : X → ℤ) (g : X → ℕ) (xs : List X) → All (λ x. nat_abs (f x) ≤ g x) xs → nat_abs (sum_over f xs) ≤ sum_by g xs
+pub sum_le : {X : Type 0} (f : X → ℤ) (g : X → ℕ) (xs : List X) → AllByRecursion (λ x. nat_abs (f x) ≤ g x) xs → nat_abs (sum_over f xs) ≤ sum_by g xs
 sum_le f g [] h = omega arith
 sum_le f g (x ∷ xs) h = omega (arith, nat_abs_add (f x) (sum_over f xs), h.0, sum_le f g xs h.1, sum_by-cons g x xs)
 
-pub all_any : {X : Type 0} (P : X → Type 0) → ((x : X) → P x) → (xs : List X) → All P xs
+pub all_any : {X : Type 0} (P : X → Type 0) → ((x : X) → P x) → (xs : List X) → AllByRecursion P xs
 all_any P f [] = tt
 all_any P f (x ∷ xs) = (f x, all_any P f xs)
 
@@ -72,7 +72,7 @@ one_hit key v a (suc n) =
     (cases_eq key a)
 
 -- what each key has, over all keys counted, is at most the whole
-pub by_key_le : {X : Type 0} (key : X → ℕ) (v : X → ℕ) (c a n : ℕ) (xs : List X) → All (λ x. v x ≤ c) xs → sum_by (λ k. sum_by (λ x. cond (eqb (key x) k) (v x) 0) xs) (range_with_len a n) ≤ length xs * c
+pub by_key_le : {X : Type 0} (key : X → ℕ) (v : X → ℕ) (c a n : ℕ) (xs : List X) → AllByRecursion (λ x. v x ≤ c) xs → sum_by (λ k. sum_by (λ x. cond (eqb (key x) k) (v x) 0) xs) (range_with_len a n) ≤ length xs * c
 by_key_le key v c a n [] h = omega (arith, none_by (range_with_len a n))
 by_key_le key v c a n (x ∷ xs) h =
     let f : ℕ → ℕ = λ k. sum_by (λ x. cond (eqb (key x) k) (v x) 0) xs in

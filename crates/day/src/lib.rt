@@ -1,7 +1,7 @@
 // The ten calls on a day: its states, its memory, and the order of refusals of each call.
 #![tactic(auto)]
 
-pub mod correcting;
+pub mod corrections;
 pub mod entering;
 pub mod issue_number;
 pub mod issuing;

@@ -3,7 +3,7 @@ ghost use Rattle.std.specs.Prelude.{◌≡◌, ℕ, true};
 ghost use Rattle.book.specs.Books.{held};
 ghost use Rattle.book.specs.Soundness.{sound_records};
 ghost use Rattle.settlement.specs.Days.{sheet_refusal};
-ghost use Rattle.settlement.specs.Sheets.{sheet as sheet-of};
+ghost use Rattle.settlement.specs.Sheets.{sheet as sheet_of};
 ghost use Rattle.day.specs.Calls.{made_before, made_with, sheet_gives};
 ghost use Rattle.day.specs.Memory.{memory};
 ghost use Rattle.day.specs.Tables.{filled_with};
@@ -67,7 +67,7 @@ impl Tabled for Issued {
 fn fill_page<R: Sharing>(book: &Book, hour: u8, rule: &R, page: &mut Table) -> Option<Fault>
     requires { sound_records (held book.now) ≡ true }
     ensures value { result ≡ sheet_refusal (held book.now) hour }
-    ensures after { page.new ≡ filled_with (sheet_refusal (held book.now) hour) page.old (sheet-of (R.Sharing.parts rule.now) (held book.now) hour) }
+    ensures after { page.new ≡ filled_with (sheet_refusal (held book.now) hour) page.old (sheet_of (R.Sharing.parts rule.now) (held book.now) hour) }
 {
     let answer = fill_sheet(book, hour, rule, page);
     let _ = cells_in(page);

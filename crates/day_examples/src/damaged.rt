@@ -4,7 +4,7 @@ use book::book::Book;
 use codes::code::Code;
 use codes::table::Table;
 use correcting::reading::Reading;
-use day::correcting::correct;
+use day::corrections::correct;
 use day::issuing::{issue, statement};
 use day::reopening::reopen;
 use day::settling::settle;

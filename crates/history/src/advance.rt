@@ -10,7 +10,7 @@ use crate::states::Day;
 use crate::steps::{Advance, Answer, Begin, Step};
 use book::book::Book;
 use codes::table::Table;
-use day::correcting::correct;
+use day::corrections::correct;
 use day::entering::{close, enter};
 use day::issuing::{issue, statement};
 use day::opening::{load, open};

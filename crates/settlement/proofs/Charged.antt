@@ -6,7 +6,7 @@ use Rattle.std.proofs.lemmas.List.{ext_get_or}
 use Rattle.dayfile.specs.Records.{Records}
 use Rattle.codes.specs.Sums.{sum_over}
 use Rattle.valuation.specs.Valid.{Sound}
-use Rattle.items.specs.Items.{all_penalties, penalties}
+use Rattle.charges.specs.Items.{all_penalties, penalties}
 use Rattle.bounds.proofs.Bounds.{penalties_le}
 use Rattle.settlement.specs.Grown.{Penalized}
 

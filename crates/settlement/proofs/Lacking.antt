@@ -3,7 +3,7 @@ use Rattle.std.proofs.Common.{◌≡◌, ℕ, zero, suc, ◌<◌, Bool, true, fa
 use Rattle.std.proofs.lemmas.Bool.{eq-eqb, eqb-true, false≢true, not-false, or_parts}
 use Rattle.dayfile.specs.Records.{Records}
 use Rattle.sharing.specs.Shareable.{shareable}
-use Rattle.sharing.specs.Admitted.{shared as facts-shared}
+use Rattle.sharing.specs.Admitted.{shared as facts_shared}
 use Rattle.codes.specs.Codes.{all_codes, basis_of, code_at, code_index}
 use Rattle.codes.specs.declared.code.Basis.TheVariants.{Purchases}
 use Rattle.codes.specs.declared.code.Code.{Code}
@@ -37,7 +37,7 @@ module _ (r : Records) (s : Sound r) (h : ℕ) (code : Code) (p : basis_of code 
   -- an amount that lacks no weights can be shared under any rule
   pub can_share : lacks r h code ≡ false → shareable (nat_abs (shared r h code)) (weights Purchases r h) ≡ true
   can_share e =
-      facts-shared (nat_abs (shared r h code)) (weights Purchases r h) (record {
+      facts_shared (nat_abs (shared r h code)) (weights Purchases r h) (record {
         some = omega (arith, weights_length r h, s.some);
         few = omega (arith, weights_length r h, s.few);
         small = omega (arith, shared_le r s h code, size_small r s h);

@@ -1,6 +1,6 @@
 -- The amounts of a row by kinds of party.
 use Rattle.std.proofs.Common.{◌≡◌, ℕ, ◌-◌, ◌≤◌, Bool, true, false, cond, ◌&&◌, eqb, leb, List, ℤ, pos, neg_ℤ, sym, refl, ap, ◌∙◌, ⊎_elim, arith}
-use Rattle.std.specs.List.{AllByRecursion as All}
+use Rattle.std.specs.List.{AllByRecursion}
 use Rattle.std.proofs.lemmas.Bool.{and_from, and_parts, and_right, cases_Bool, cases_eq, cond-false, cond-true, eq-eqb, le-leb, leb-true, lt-leb, ne_eqb}
 use Rattle.codes.specs.Parties.{system_party}
 use Rattle.codes.specs.Sums.{sum_over}
@@ -33,7 +33,7 @@ pub accounts_have : (n : ℕ) (f : ℕ → ℤ) (q : ℕ) → amount_of n (to_ac
 accounts_have n f q = ap (cond (is_account n q) (f q)) (zeros (is_system q) (eqb q 51) (eqb q 52))
 
 -- what records add up to for the account asked for, where every record has one of n accounts
-pub account_row : {X : Type 0} (owner : X → ℕ) (f : X → ℤ) (n : ℕ) (xs : List X) → All (λ x. (1 ≤ owner x) × (owner x ≤ n)) xs → (q : ℕ)
+pub account_row : {X : Type 0} (owner : X → ℕ) (f : X → ℤ) (n : ℕ) (xs : List X) → AllByRecursion (λ x. (1 ≤ owner x) × (owner x ≤ n)) xs → (q : ℕ)
     → sum_over (λ x. owned_by (owner x) q (f x)) xs ≡ amount_of n (to_accounts (λ a. sum_over (λ x. owned_by (owner x) a (f x)) xs)) q
 account_row {X = X} owner f n xs h q =
     ⊎_elim
@@ -52,7 +52,7 @@ account_row {X = X} owner f n xs h q =
         omega arith
 
 -- what records add up to for the external system asked for
-pub system_row : {X : Type 0} (owner : X → ℕ) (f : X → ℤ) (n : ℕ) (xs : List X) → n ≤ 32 → All (λ x. (1 ≤ owner x) × (owner x ≤ 4)) xs → (q : ℕ)
+pub system_row : {X : Type 0} (owner : X → ℕ) (f : X → ℤ) (n : ℕ) (xs : List X) → n ≤ 32 → AllByRecursion (λ x. (1 ≤ owner x) × (owner x ≤ 4)) xs → (q : ℕ)
     → sum_over (λ x. owned_by (system_party (owner x)) q (f x)) xs ≡ amount_of n (to_systems (λ s. sum_over (λ x. owned_by (owner x) s (f x)) xs)) q
 system_row {X = X} owner f n xs few h q =
     ⊎_elim

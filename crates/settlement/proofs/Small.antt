@@ -1,7 +1,7 @@
 -- How large the cells of a sheet and of a day can be.
 use Rattle.std.proofs.Common.{◌≡◌, ℕ, zero, suc, ◌+◌, ◌-◌, ◌<◌, ◌≤◌, Bool, true, false, cond, ◌&&◌, eqb, leb, List, [], ◌∷◌, ◌++◌, map, length, get_or, ℤ, pos, ◌+ℤ◌, nat_abs, Some, None, sym, refl, ap, ◌∙◌, ⊎_elim, arith}
 use borrow.Author.Differences.{ints}
-use Rattle.std.specs.List.{range_with_len, AllByRecursion as All}
+use Rattle.std.specs.List.{range_with_len, AllByRecursion}
 use Rattle.std.proofs.lemmas.List.FromFn.{map-range_with_len_more}
 use Rattle.std.proofs.lemmas.List.{get_or_past}
 use Rattle.std.proofs.lemmas.Bool.{cases_Bool, cases_eq, cases_lt, cond-false, cond-true}
@@ -14,7 +14,7 @@ use Rattle.codes.specs.declared.code.Basis.TheVariants.{Purchases}
 use Rattle.codes.specs.declared.code.Code.{Code}
 use Rattle.codes.specs.declared.code.Code.TheVariants.{A1, A2, A3, A4, B1, B2, B3, B4, F1, F2, F3, F4, F5, F6}
 use Rattle.amounts.specs.Amounts.{lacking, shared, weights}
-use Rattle.items.specs.Items.{fines, penalties}
+use Rattle.charges.specs.Items.{fines, penalties}
 use Rattle.price_grid.specs.Found.{first_of}
 use Rattle.valuation.specs.Valid.{Sound}
 use Rattle.valuation.specs.declared.market.Market.TheVariants.{DayAhead, RealTime}
@@ -75,7 +75,7 @@ module _ (f : ℕ → List ℕ → List ℕ) (fair : Fair f) (r : Records) (s : 
   sheet_le h l F6 q = nobody_le r.heading.accounts (size r h) q
 
   -- in some hours counted nothing is lacking
-  each_le : (a n : ℕ) → ((h : ℕ) → a ≤ h → h < a + n → lacking r h ≡ false) → (code : Code) (q : ℕ) → All (λ h. nat_abs (sheet f r h code q) ≤ size r h) (range_with_len a n)
+  each_le : (a n : ℕ) → ((h : ℕ) → a ≤ h → h < a + n → lacking r h ≡ false) → (code : Code) (q : ℕ) → AllByRecursion (λ h. nat_abs (sheet f r h code q) ≤ size r h) (range_with_len a n)
   each_le a zero l code q = tt
   each_le a (suc n) l code q = (sheet_le a (l a (omega arith) (omega arith)) code q, each_le (a + 1) n (λ h i j. l h (omega arith) (omega arith)) code q)
 

@@ -12,7 +12,7 @@ use Rattle.codes.specs.declared.code.Code.{Code}
 use Rattle.codes.specs.declared.code.Code.TheVariants.{A1, A2, A3, A4, B1, B2, B3, B4, F1, F2, F3, F4, F5, F6}
 use Rattle.codes.specs.declared.table.Table.{Table}
 use Rattle.amounts.specs.Amounts.{Scope, first_lacking, lacking, scopes}
-use Rattle.items.specs.Items.{all_fines, all_penalties, fines, penalties}
+use Rattle.charges.specs.Items.{all_fines, all_penalties, fines, penalties}
 use Rattle.settlement.specs.Sheets.{ByKind, amount_of, sheet, to_accounts, to_nobody, to_universal_service, to_working_capital}
 
 -- the items of the day: penalties and fines are charged to accounts and paid to the funds. No item is shared, so the

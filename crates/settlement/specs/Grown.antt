@@ -4,7 +4,7 @@ use Rattle.dayfile.specs.Records.{Records}
 use Rattle.codes.specs.Cells.{cell}
 use Rattle.codes.specs.declared.code.Code.{Code}
 use Rattle.codes.specs.declared.table.Table.{Table}
-use Rattle.items.specs.Items.{penalties}
+use Rattle.charges.specs.Items.{penalties}
 
 -- one cell has grown by an amount, every other is as it was
 pub record Added (t u : Table) (code : Code) (party : ℕ) (amount : ℤ) : Type 0 where

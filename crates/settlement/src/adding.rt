@@ -1,6 +1,6 @@
 // Adding amounts to a table.
 ghost use Rattle.std.specs.Prelude.{◌≡◌, ℕ, ◌<◌, ◌≤◌, true, length, ℤ, pos, is_some, slice_index_or, unsigned_abs};
-ghost use Rattle.std.specs.List.{AllByRecursion as All};
+ghost use Rattle.std.specs.List.{AllByRecursion};
 ghost use Rattle.codes.specs.Cells.{cell};
 ghost use Rattle.codes.specs.Parties.{party_place, system_party};
 ghost use Rattle.codes.specs.Sums.{sum_over};
@@ -46,8 +46,8 @@ pub(crate) fn add_each<X, P: Payee<X>, T: Term<X>>(
     table: &mut Table,
 )
     requires few { length xs.now ≤ 1000 }
-    requires valid { All (T.Term.valid term.now) xs.now }
-    requires listed { All (P.Payee.listed payee.now) xs.now }
+    requires valid { AllByRecursion (T.Term.valid term.now) xs.now }
+    requires listed { AllByRecursion (P.Payee.listed payee.now) xs.now }
     requires room { RoomIn table.old code }
     ensures { RowAdded table.old table.new code (λ q. sum_over (λ x. owned_by (P.Payee.party payee.now x) q (T.Term.adds term.now x)) xs.now) }
 {

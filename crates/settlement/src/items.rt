@@ -5,7 +5,7 @@ ghost use Rattle.codes.specs.Sums.{sum_over};
 ghost use Rattle.codes.specs.declared.code.Code.{Code};
 ghost use Rattle.valuation.specs.Terms.{fine_mils};
 ghost use Rattle.valuation.specs.Valid.{Sound, ValidFine};
-ghost use Rattle.items.specs.Items.{all_fines, all_penalties, fines, penalties};
+ghost use Rattle.charges.specs.Items.{all_fines, all_penalties, fines, penalties};
 ghost use Rattle.settlement.specs.Days.{item, items};
 ghost use Rattle.settlement.specs.Grown.{Grown, Penalized, Room, RoomIn, RowAdded};
 ghost use Rattle.settlement.specs.Sheets.{amount_of, to_accounts, to_universal_service, to_working_capital};

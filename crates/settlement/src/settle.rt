@@ -13,12 +13,12 @@ use crate::items::add_items;
 use crate::shared::is_lacking;
 use crate::sheet::{add_sheet, put_weights};
 use book::book::Book;
+use charges::penalties::put_penalties;
 use closing::prices::first_unpriced;
 use codes::party::ACCOUNTS;
 use codes::table::Table;
 use faults::fault::{Fault, Place};
 use faults::refusal::Refusal;
-use items::penalties::put_penalties;
 use price_grid::grid::PriceGrid;
 use sharing::rule::Sharing;
 

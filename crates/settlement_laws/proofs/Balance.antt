@@ -19,7 +19,7 @@ use Rattle.codes.specs.declared.code.Basis.TheVariants.{Own, Purchases}
 use Rattle.codes.specs.declared.code.Code.{Code}
 use Rattle.codes.specs.declared.code.Code.TheVariants.{A1, A2, A3, A4, B1, B2, B3, B4, F1, F2, F3, F4, F5, F6}
 use Rattle.amounts.specs.Amounts.{accounts, energy, exchange, imbalance, lacking, reserve, scopes, shared, value_of_imbalance, weights}
-use Rattle.items.specs.Items.{all_fines, all_penalties, fines, penalties}
+use Rattle.charges.specs.Items.{all_fines, all_penalties, fines, penalties}
 use Rattle.valuation.specs.Terms.{exchange_term, fine_mils, imbalance_term, imbalance_value, market_price, net_export}
 use Rattle.valuation.specs.Valid.{Listed, Sound, ValidInterconnection}
 use Rattle.valuation.specs.declared.market.Market.TheVariants.{DayAhead, RealTime}

@@ -1,6 +1,6 @@
 -- Facts of records that a book takes, and of a book that took them all.
 use Rattle.std.specs.Prelude.{ℕ, ◌≤◌, cond, ◌&&◌, length, sum_by, ◌==◌, unsigned_abs}
-use Rattle.std.specs.List.{AllByRecursion as All}
+use Rattle.std.specs.List.{AllByRecursion}
 use Rattle.dayfile.specs.Records.{Records}
 use Rattle.dayfile.specs.declared.record.Fine.{Fine}
 use Rattle.dayfile.specs.declared.record.Interconnection.{Interconnection}
@@ -47,13 +47,13 @@ pub record Sound (r : Records) : Type 0 where
   pub few_reserves : length r.reserves ≤ 400
   pub few_failures : length r.failures ≤ 320
   pub few_fines : length r.fines ≤ 50
-  pub prices : All ValidPrice r.prices
-  pub positions : All ValidPosition r.positions
-  pub interconnections : All ValidInterconnection r.interconnections
-  pub reserves : All ValidReserve r.reserves
-  pub fines : All ValidFine r.fines
-  pub position_accounts : All (λ x. Listed r x.account) r.positions
-  pub reserve_accounts : All (λ x. Listed r x.account) r.reserves
-  pub fine_accounts : All (λ x. Listed r x.account) r.fines
+  pub prices : AllByRecursion ValidPrice r.prices
+  pub positions : AllByRecursion ValidPosition r.positions
+  pub interconnections : AllByRecursion ValidInterconnection r.interconnections
+  pub reserves : AllByRecursion ValidReserve r.reserves
+  pub fines : AllByRecursion ValidFine r.fines
+  pub position_accounts : AllByRecursion (λ x. Listed r x.account) r.positions
+  pub reserve_accounts : AllByRecursion (λ x. Listed r x.account) r.reserves
+  pub fine_accounts : AllByRecursion (λ x. Listed r x.account) r.fines
   -- no two failures have one unit and kind
   pub once : (unit kind : ℕ) → sum_by (λ f. cond (unit == f.unit && kind == f.kind) 1 0) r.failures ≤ 1

@@ -1,6 +1,6 @@
 // What one record comes to.
 ghost use Rattle.std.specs.Prelude.{◌≡◌, ℕ, ◌*◌, ◌≤◌, ℤ, ◌+ℤ◌, ◌-ℤ◌, ◌*ℤ◌, Some, unsigned_abs};
-ghost use Rattle.std.specs.List.{AllByRecursion as All};
+ghost use Rattle.std.specs.List.{AllByRecursion};
 ghost use Rattle.valuation.specs.Terms.{class_buys, class_sign, deviation, exchange_energy, exchange_term, failed_term, fine_mils, imbalance_term, imbalance_value, market_price, net_export, position_energy, position_term, price_in, reserve_energy, reserve_price, reserve_term};
 ghost use Rattle.valuation.specs.Valid.{ValidFine, ValidInterconnection, ValidPosition, ValidPrice, ValidReserve};
 
@@ -62,7 +62,7 @@ fn price_in(market: Market, p: Price) -> i64
 
 // The price of a node and an hour in a market.
 fn price_for(prices: &PriceGrid, market: Market, node: u8, hour: u8) -> i64
-    requires { All ValidPrice prices.now.prices.now }
+    requires { AllByRecursion ValidPrice prices.now.prices.now }
     ensures value { result ≡ market_price prices.now.prices.now market node hour }
     ensures bound { unsigned_abs result ≤ 10000000 }
 {
@@ -95,7 +95,7 @@ fn energy(market: Market, x: &Position) -> i64
 
 // What a position comes to in a market.
 pub fn position_term(prices: &PriceGrid, market: Market, x: &Position) -> i64
-    requires prices { All ValidPrice prices.now.prices.now }
+    requires prices { AllByRecursion ValidPrice prices.now.prices.now }
     requires position { ValidPosition x.now }
     ensures value { result ≡ position_term prices.now.prices.now market x.now }
     ensures bound { unsigned_abs result ≤ 20000000000000 }
@@ -178,7 +178,7 @@ fn exchange_energy(market: Market, x: &Interconnection) -> i64
 
 // What an exchange comes to at a market's price.
 pub fn exchange_term(prices: &PriceGrid, market: Market, x: &Interconnection) -> i64
-    requires prices { All ValidPrice prices.now.prices.now }
+    requires prices { AllByRecursion ValidPrice prices.now.prices.now }
     requires interconnection { ValidInterconnection x.now }
     ensures value { result ≡ exchange_term prices.now.prices.now market x.now }
     ensures bound { unsigned_abs result ≤ 40000000000000 }
@@ -208,7 +208,7 @@ pub fn imbalance_term(x: &Interconnection) -> i64
 
 // One market's price × another's net export.
 fn priced_export(prices: &PriceGrid, price: Market, flow: Market, x: &Interconnection) -> i64
-    requires prices { All ValidPrice prices.now.prices.now }
+    requires prices { AllByRecursion ValidPrice prices.now.prices.now }
     requires interconnection { ValidInterconnection x.now }
     ensures value { result ≡ market_price prices.now.prices.now price x.now.node x.now.hour *ℤ net_export flow x.now }
     ensures bound { unsigned_abs result ≤ 20000000000000 }
@@ -242,7 +242,7 @@ fn less(a: i64, b: i64) -> i64
 
 // The value of the imbalance.
 pub fn imbalance_value(prices: &PriceGrid, x: &Interconnection) -> i64
-    requires prices { All ValidPrice prices.now.prices.now }
+    requires prices { AllByRecursion ValidPrice prices.now.prices.now }
     requires interconnection { ValidInterconnection x.now }
     ensures value { result ≡ imbalance_value prices.now.prices.now x.now }
     ensures bound { unsigned_abs result ≤ 80000000000000 }

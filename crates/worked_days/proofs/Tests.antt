@@ -2,7 +2,7 @@
 use Rattle.std.proofs.Common.{◌≡◌, true, eqb, List, [], ◌∷◌, ℤ, pos, negsuc, refl, ap}
 use Rattle.std.proofs.ByRecursion.{all-has}
 use Rattle.std.proofs.lemmas.Bool.{and_parts, eqb-true, false≢true}
-use Rattle.std.specs.List.{ContainsAt as Has, AllByRecursion as All}
+use Rattle.std.specs.List.{ContainsAt, AllByRecursion}
 use Rattle.worked_days.specs.Examples.{Answer, Example, all_right, defined, expected, numbers, refused, same_answer, same_number, same_numbers}
 
 number : (x y : ℤ) → same_number x y ≡ true → x ≡ y
@@ -31,11 +31,11 @@ answer (refused m k) (refused n l) s =
     let layer-is = eqb-true k l p.1 in
     cc
 
-rows : (xs : List Example) → all_right xs ≡ true → All (λ x. defined x ≡ expected x) xs
+rows : (xs : List Example) → all_right xs ≡ true → AllByRecursion (λ x. defined x ≡ expected x) xs
 rows [] s = tt
 rows (x ∷ xs) s =
     let p = and_parts (same_answer (defined x) (expected x)) (all_right xs) s in
     (answer (defined x) (expected x) p.0, rows xs p.1)
 
-pub each_row : (xs : List Example) → all_right xs ≡ true → (x : Example) → Has xs x → defined x ≡ expected x
+pub each_row : (xs : List Example) → all_right xs ≡ true → (x : Example) → ContainsAt xs x → defined x ≡ expected x
 each_row xs s x h = all-has (λ y. defined y ≡ expected y) xs x (rows xs s) h

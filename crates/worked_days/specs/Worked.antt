@@ -1,6 +1,6 @@
 -- The common table of worked examples.
 use Rattle.std.specs.Prelude.{◌≡◌, ℕ, List, [], ◌∷◌, ◌++◌, map, take, pos, neg_ℤ, codes}
-use Rattle.std.specs.List.{flat_map, ContainsAt as Has}
+use Rattle.std.specs.List.{flat_map, ContainsAt}
 use Rattle.dayfile.specs.Records.{Records}
 use Rattle.dayfile.specs.declared.record.Class.TheVariants.{Generation, Load}
 use Rattle.sharing.specs.declared.choice.Rule.TheVariants.{LargestRemainder, Running}
@@ -84,4 +84,4 @@ worked_examples =
 
 -- each example of the table comes out as it says
 abbrev pub ExamplesHold : Type 0
-ExamplesHold = (x : Example) → Has worked_examples x → defined x ≡ expected x
+ExamplesHold = (x : Example) → ContainsAt worked_examples x → defined x ≡ expected x

@@ -1,7 +1,7 @@
 use Rattle.std.proofs.Common.{◌≡◌, ℕ, ◌≤◌, length, sym, ◌∙◌, subst, arith}
 use Rattle.std.proofs.lemmas.List.FromFn.{get_or-map-range_with_len, length-map-range_with_len}
 use Rattle.std.proofs.lemmas.List.{ext_get_or}
-use Rattle.std.specs.List.{AllByRecursion as All}
+use Rattle.std.specs.List.{AllByRecursion}
 use Rattle.amounts.specs.Buying.{bought_sum}
 use Rattle.amounts.proofs.purchases.put_purchases.Goals as goal
 
@@ -9,7 +9,7 @@ pub add_purchases-requires : goal.add_purchases-requires
 add_purchases-requires c = record {
   few = c.requires.few;
   valid = c.requires.valid;
-  listed = subst (λ (n : ℕ). All (λ x. (1 ≤ x.account) × (x.account ≤ n)) c.args.positions.now) (sym c.clear.auto.weights) c.requires.listed;
+  listed = subst (λ (n : ℕ). AllByRecursion (λ x. (1 ≤ x.account) × (x.account ≤ n)) c.args.positions.now) (sym c.clear.auto.weights) c.requires.listed;
   clear = c.clear.ensures;
 }
 

@@ -1,5 +1,5 @@
 use Rattle.std.proofs.Common.{◌≤◌, List, length, neg_ℤ, sym, ◌∙◌, subst, arith}
-use Rattle.std.specs.List.{AllByRecursion as All}
+use Rattle.std.specs.List.{AllByRecursion}
 use Rattle.dayfile.specs.declared.record.Fine.{Fine}
 use Rattle.book.specs.Books.{held}
 use Rattle.codes.specs.Sums.{sum_over}
@@ -18,8 +18,8 @@ add_each-requires c =
     let e = sym c.as_slice.ensures.value in
     record {
       few = subst (λ (xs : List Fine). length xs ≤ 1000) e (omega (arith, s.few_fines));
-      valid = subst (λ (xs : List Fine). All ValidFine xs) e s.fines;
-      listed = subst (λ (xs : List Fine). All (λ x. (1 ≤ x.account) × (x.account ≤ 32)) xs) e
+      valid = subst (λ (xs : List Fine). AllByRecursion ValidFine xs) e s.fines;
+      listed = subst (λ (xs : List Fine). AllByRecursion (λ x. (1 ≤ x.account) × (x.account ≤ 32)) xs) e
           (all_map (λ x. Listed r x.account) _ (λ x p. (p.0, omega (arith, p.1, s.few))) r.fines s.fine_accounts);
       room = c.requires.room;
     }

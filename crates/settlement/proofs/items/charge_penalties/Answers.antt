@@ -1,6 +1,6 @@
 use Rattle.std.proofs.Common.{◌≡◌, ℕ, ◌+◌, ◌-◌, ◌<◌, ◌≤◌, cond, ◌&&◌, leb, length, get_or, pos, neg_ℤ, sym, ap, ◌∙◌, arith}
 use Rattle.book.specs.Books.{held}
-use Rattle.items.specs.Items.{penalties}
+use Rattle.charges.specs.Items.{penalties}
 use Rattle.bounds.proofs.Limits.{neg_le}
 use Rattle.settlement.proofs.Charged.{charged_small}
 use Rattle.settlement.proofs.PartyRows.{accounts_have, accounts_same}

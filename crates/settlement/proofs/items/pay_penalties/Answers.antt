@@ -2,7 +2,7 @@ use Rattle.std.proofs.Common.{◌≡◌, refl, ap, ◌∙◌, arith, w64, to_z, 
 use Rattle.std.proofs.lemmas.Int.{to_z-of_z}
 use Rattle.book.specs.Books.{held}
 use Rattle.amounts.specs.Amounts.{owned_by}
-use Rattle.items.specs.Items.{all_penalties}
+use Rattle.charges.specs.Items.{all_penalties}
 use Rattle.bounds.proofs.Bounds.{all_penalties_le}
 use Rattle.settlement.proofs.Charged.{charged_small, charged_total}
 use Rattle.settlement.proofs.PartyRows.{capital_row}

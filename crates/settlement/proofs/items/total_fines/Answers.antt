@@ -1,5 +1,5 @@
 use Rattle.std.proofs.Common.{◌≤◌, List, length, sym, ap, ◌∙◌, subst, arith, w64}
-use Rattle.std.specs.List.{AllByRecursion as All}
+use Rattle.std.specs.List.{AllByRecursion}
 use Rattle.std.proofs.lemmas.Int.{to_z-of_z}
 use Rattle.dayfile.specs.declared.record.Fine.{Fine}
 use Rattle.book.specs.Books.{held}
@@ -14,7 +14,7 @@ sum_of-requires c =
     let e = sym c.as_slice.ensures.value in
     record {
       few = subst (λ (xs : List Fine). length xs ≤ 1000) e (omega (arith, c.requires.few_fines));
-      valid = subst (λ (xs : List Fine). All ValidFine xs) e c.requires.fines;
+      valid = subst (λ (xs : List Fine). AllByRecursion ValidFine xs) e c.requires.fines;
     }
 
 pub returns : goal.returns

@@ -1,5 +1,5 @@
 use Rattle.std.proofs.Common.{◌≤◌, cond, eqb, List, length, pos, sym, ◌∙◌, subst, arith}
-use Rattle.std.specs.List.{AllByRecursion as All}
+use Rattle.std.specs.List.{AllByRecursion}
 use Rattle.dayfile.specs.declared.record.Position.{Position}
 use Rattle.book.specs.Books.{held}
 use Rattle.codes.specs.Sums.{sum_over}
@@ -18,9 +18,9 @@ add_each-requires c =
     let e = sym c.as_slice.ensures.value in
     record {
       few = subst (λ (xs : List Position). length xs ≤ 1000) e s.few_positions;
-      valid = subst (λ (xs : List Position). All (λ x. All ValidPrice c.args.prices.now.prices.now × ValidPosition x) xs) e
-          (all_map ValidPosition _ (λ x v. (subst (All ValidPrice) (sym c.requires.priced) s.prices, v)) r.positions s.positions);
-      listed = subst (λ (xs : List Position). All (λ x. (1 ≤ x.account) × (x.account ≤ 32)) xs) e
+      valid = subst (λ (xs : List Position). AllByRecursion (λ x. AllByRecursion ValidPrice c.args.prices.now.prices.now × ValidPosition x) xs) e
+          (all_map ValidPosition _ (λ x v. (subst (AllByRecursion ValidPrice) (sym c.requires.priced) s.prices, v)) r.positions s.positions);
+      listed = subst (λ (xs : List Position). AllByRecursion (λ x. (1 ≤ x.account) × (x.account ≤ 32)) xs) e
           (all_map (λ x. Listed r x.account) _ (λ x p. (p.0, omega (arith, p.1, s.few))) r.positions s.position_accounts);
       room = c.requires.room;
     }

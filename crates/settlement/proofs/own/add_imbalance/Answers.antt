@@ -1,5 +1,5 @@
 use Rattle.std.proofs.Common.{◌≤◌, cond, eqb, List, length, ℤ, pos, neg_ℤ, sym, ◌∙◌, subst, arith}
-use Rattle.std.specs.List.{AllByRecursion as All}
+use Rattle.std.specs.List.{AllByRecursion}
 use Rattle.dayfile.specs.declared.record.Interconnection.{Interconnection}
 use Rattle.book.specs.Books.{held}
 use Rattle.codes.specs.Parties.{system_party}
@@ -18,8 +18,8 @@ add_each-requires c =
     let e = sym c.as_slice.ensures.value in
     record {
       few = subst (λ (xs : List Interconnection). length xs ≤ 1000) e (omega (arith, s.few_interconnections));
-      valid = subst (λ (xs : List Interconnection). All ValidInterconnection xs) e s.interconnections;
-      listed = subst (λ (xs : List Interconnection). All ValidInterconnection xs) e s.interconnections;
+      valid = subst (λ (xs : List Interconnection). AllByRecursion ValidInterconnection xs) e s.interconnections;
+      listed = subst (λ (xs : List Interconnection). AllByRecursion ValidInterconnection xs) e s.interconnections;
       room = c.requires.room;
     }
 

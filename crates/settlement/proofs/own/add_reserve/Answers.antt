@@ -1,5 +1,5 @@
 use Rattle.std.proofs.Common.{◌≤◌, cond, eqb, List, length, pos, sym, ◌∙◌, subst, arith}
-use Rattle.std.specs.List.{AllByRecursion as All}
+use Rattle.std.specs.List.{AllByRecursion}
 use Rattle.dayfile.specs.declared.record.Reserve.{Reserve}
 use Rattle.book.specs.Books.{held}
 use Rattle.codes.specs.Sums.{sum_over}
@@ -18,8 +18,8 @@ add_each-requires c =
     let e = sym c.as_slice.ensures.value in
     record {
       few = subst (λ (xs : List Reserve). length xs ≤ 1000) e (omega (arith, s.few_reserves));
-      valid = subst (λ (xs : List Reserve). All ValidReserve xs) e s.reserves;
-      listed = subst (λ (xs : List Reserve). All (λ x. (1 ≤ x.account) × (x.account ≤ 32)) xs) e
+      valid = subst (λ (xs : List Reserve). AllByRecursion ValidReserve xs) e s.reserves;
+      listed = subst (λ (xs : List Reserve). AllByRecursion (λ x. (1 ≤ x.account) × (x.account ≤ 32)) xs) e
           (all_map (λ x. Listed r x.account) _ (λ x p. (p.0, omega (arith, p.1, s.few))) r.reserves s.reserve_accounts);
       room = c.requires.room;
     }

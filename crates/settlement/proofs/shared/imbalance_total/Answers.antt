@@ -1,5 +1,5 @@
 use Rattle.std.proofs.Common.{◌≤◌, cond, eqb, List, length, pos, sym, ◌∙◌, subst, arith, w64}
-use Rattle.std.specs.List.{AllByRecursion as All}
+use Rattle.std.specs.List.{AllByRecursion}
 use Rattle.std.proofs.lemmas.Int.{to_z-of_z}
 use Rattle.dayfile.specs.declared.record.Interconnection.{Interconnection}
 use Rattle.book.specs.Books.{held}
@@ -17,8 +17,8 @@ sum_of-requires c =
     let e = sym c.as_slice.ensures.value in
     record {
       few = subst (λ (xs : List Interconnection). length xs ≤ 1000) e (omega (arith, s.few_interconnections));
-      valid = subst (λ (xs : List Interconnection). All (λ x. All ValidPrice c.args.prices.now.prices.now × ValidInterconnection x) xs) e
-          (all_map ValidInterconnection _ (λ x v. (subst (All ValidPrice) (sym c.requires.priced) s.prices, v)) r.interconnections s.interconnections);
+      valid = subst (λ (xs : List Interconnection). AllByRecursion (λ x. AllByRecursion ValidPrice c.args.prices.now.prices.now × ValidInterconnection x) xs) e
+          (all_map ValidInterconnection _ (λ x v. (subst (AllByRecursion ValidPrice) (sym c.requires.priced) s.prices, v)) r.interconnections s.interconnections);
     }
 
 pub returns : goal.returns

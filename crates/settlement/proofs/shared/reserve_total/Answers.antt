@@ -1,5 +1,5 @@
 use Rattle.std.proofs.Common.{◌≤◌, cond, eqb, List, length, pos, sym, ◌∙◌, subst, arith, w64}
-use Rattle.std.specs.List.{AllByRecursion as All}
+use Rattle.std.specs.List.{AllByRecursion}
 use Rattle.std.proofs.lemmas.Int.{to_z-of_z}
 use Rattle.dayfile.specs.declared.record.Reserve.{Reserve}
 use Rattle.book.specs.Books.{held}
@@ -16,7 +16,7 @@ sum_of-requires c =
     let e = sym c.as_slice.ensures.value in
     record {
       few = subst (λ (xs : List Reserve). length xs ≤ 1000) e (omega (arith, s.few_reserves));
-      valid = subst (λ (xs : List Reserve). All ValidReserve xs) e s.reserves;
+      valid = subst (λ (xs : List Reserve). AllByRecursion ValidReserve xs) e s.reserves;
     }
 
 pub returns : goal.returns

@@ -1,5 +1,5 @@
 use Rattle.std.proofs.Common.{◌≤◌, List, length, sym, ◌∙◌, subst, arith}
-use Rattle.std.specs.List.{AllByRecursion as All}
+use Rattle.std.specs.List.{AllByRecursion}
 use Rattle.dayfile.specs.declared.record.Position.{Position}
 use Rattle.book.specs.Books.{held}
 use Rattle.valuation.specs.Valid.{Listed, ValidPosition}
@@ -14,8 +14,8 @@ put_purchases-requires c =
     let e = sym c.as_slice.ensures.value in
     record {
       few = subst (λ (xs : List Position). length xs ≤ 1000) e s.few_positions;
-      valid = subst (λ (xs : List Position). All ValidPosition xs) e s.positions;
-      listed = subst (λ (xs : List Position). All (λ x. (1 ≤ x.account) × (x.account ≤ length c.args.purchases.now)) xs) e
+      valid = subst (λ (xs : List Position). AllByRecursion ValidPosition xs) e s.positions;
+      listed = subst (λ (xs : List Position). AllByRecursion (λ x. (1 ≤ x.account) × (x.account ≤ length c.args.purchases.now)) xs) e
           (all_map (λ x. Listed r x.account) _ (λ x p. (p.0, omega (arith, p.1, c.requires.places))) r.positions s.position_accounts);
     }
 

@@ -1,6 +1,6 @@
 use Rattle.std.proofs.Common.{◌≡◌, ℕ, ◌<◌, ◌≤◌, get_or, pos, ◌+ℤ◌}
-use Rattle.items.specs.Items.{at_least_zero}
-use Rattle.items.proofs.penalties.add_penalties.Given as goal
+use Rattle.charges.specs.Items.{at_least_zero}
+use Rattle.charges.proofs.penalties.add_penalties.Given as goal
 
 abbrev pub invariant-loop-i : goal.invariant-loop-i
 invariant-loop-i l =

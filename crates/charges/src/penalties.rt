@@ -1,10 +1,10 @@
 // Penalties for reserve that failed the minimum standard.
 ghost use Rattle.std.specs.Prelude.{◌≡◌, ℕ, ◌+◌, ◌-◌, ◌<◌, ◌≤◌, length, ℤ, pos, ◌+ℤ◌, slice_index_or, unsigned_abs};
-ghost use Rattle.std.specs.List.{AllByRecursion as All};
+ghost use Rattle.std.specs.List.{AllByRecursion};
 ghost use Rattle.codes.specs.Sums.{sum_over};
 ghost use Rattle.valuation.specs.Valid.{ValidReserve};
 ghost use Rattle.amounts.specs.Amounts.{owned_by};
-ghost use Rattle.items.specs.Items.{at_least_zero, failed_among, failing, penalty_among};
+ghost use Rattle.charges.specs.Items.{at_least_zero, failed_among, failing, penalty_among};
 
 use dayfile::record::{Failure, Reserve};
 use valuation::terms::failed_term;
@@ -43,8 +43,8 @@ fn add_to(sums: &mut [i64], account: u8, mils: i64)
 // Adds each reserve of the unit and kind that failed to its account's sum, in one pass.
 fn add_failed(reserves: &[Reserve], failure: Failure, sums: &mut [i64])
     requires few { length reserves.now ≤ 400 }
-    requires valid { All ValidReserve reserves.now }
-    requires listed { All (λ x. (1 ≤ x.account) × (x.account ≤ length sums.old)) reserves.now }
+    requires valid { AllByRecursion ValidReserve reserves.now }
+    requires listed { AllByRecursion (λ x. (1 ≤ x.account) × (x.account ≤ length sums.old)) reserves.now }
     requires clear { (k : ℕ) → k < length sums.old → slice_index_or sums.old k (pos 0) ≡ pos 0 }
     ensures value { (k : ℕ) → k < length sums.new → slice_index_or sums.new k (pos 0) ≡ failed_among reserves.now failure (k + 1) }
     ensures bound { (k : ℕ) → k < length sums.new → unsigned_abs (slice_index_or sums.new k (pos 0)) ≤ 16000000000000000 }
@@ -57,8 +57,8 @@ fn add_failed(reserves: &[Reserve], failure: Failure, sums: &mut [i64])
 // Writes the day's sum of each account for a unit and kind that failed.
 fn put_failed(reserves: &[Reserve], failure: Failure, sums: &mut [i64])
     requires few { length reserves.now ≤ 400 }
-    requires valid { All ValidReserve reserves.now }
-    requires listed { All (λ x. (1 ≤ x.account) × (x.account ≤ length sums.old)) reserves.now }
+    requires valid { AllByRecursion ValidReserve reserves.now }
+    requires listed { AllByRecursion (λ x. (1 ≤ x.account) × (x.account ≤ length sums.old)) reserves.now }
     ensures value { (k : ℕ) → k < length sums.new → slice_index_or sums.new k (pos 0) ≡ failed_among reserves.now failure (k + 1) }
     ensures bound { (k : ℕ) → k < length sums.new → unsigned_abs (slice_index_or sums.new k (pos 0)) ≤ 16000000000000000 }
 {
@@ -95,8 +95,8 @@ pub fn put_penalties(
 )
     requires few { length reserves.now ≤ 400 }
     requires failed { length failures.now ≤ 320 }
-    requires valid { All ValidReserve reserves.now }
-    requires listed { All (λ x. (1 ≤ x.account) × (x.account ≤ length sums.old)) reserves.now }
+    requires valid { AllByRecursion ValidReserve reserves.now }
+    requires listed { AllByRecursion (λ x. (1 ≤ x.account) × (x.account ≤ length sums.old)) reserves.now }
     requires long { length sums.old ≡ length penalties.old }
     ensures { (k : ℕ) → k < length penalties.new → slice_index_or penalties.new k (pos 0) ≡ sum_over (penalty_among reserves.now (k + 1)) failures.now }
 {

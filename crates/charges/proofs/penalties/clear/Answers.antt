@@ -1,5 +1,5 @@
 use Rattle.std.proofs.Common.{◌<◌, ◌≢◌, length, arith, get_or-set_other, get_or-set_same, below_more}
-use Rattle.items.proofs.penalties.clear.Goals as goal
+use Rattle.charges.proofs.penalties.clear.Goals as goal
 
 pub loop-sum-preserved : goal.loop-sum-preserved
 loop-sum-preserved c =

@@ -1,13 +1,13 @@
 use Rattle.std.proofs.Common.{◌≡◌, ℕ, ◌+◌, ◌<◌, ◌≤◌, length, get_or, pos, nat_abs, sym, ap, ◌∙◌, subst, arith}
 use borrow.Author.Differences.{ints}
 use Rattle.std.proofs.lemmas.List.{take_all}
-use Rattle.std.specs.List.{AllByRecursion as All}
+use Rattle.std.specs.List.{AllByRecursion}
 use Rattle.codes.specs.Sums.{sum_over}
 use Rattle.valuation.specs.Blanks.{no_failure}
 use Rattle.amounts.proofs.Adding.{sum_more}
-use Rattle.items.specs.Items.{at_least_zero, penalty_among}
-use Rattle.items.proofs.AtLeastZero.{zero_le}
-use Rattle.items.proofs.penalties.put_penalties.Goals as goal
+use Rattle.charges.specs.Items.{at_least_zero, penalty_among}
+use Rattle.charges.proofs.AtLeastZero.{zero_le}
+use Rattle.charges.proofs.penalties.put_penalties.Goals as goal
 
 pub loop-failure-init : goal.loop-failure-init
 loop-failure-init c = λ k h. (c.clear.ensures k h, omega (arith, ap nat_abs (c.clear.ensures k h)))
@@ -16,7 +16,7 @@ pub put_failed-requires : goal.put_failed-requires
 put_failed-requires c = record {
   few = c.requires.few;
   valid = c.requires.valid;
-  listed = subst (λ (n : ℕ). All (λ x. (1 ≤ x.account) × (x.account ≤ n)) c.args.reserves.now) (sym c.loop-failure.auto.sums) c.requires.listed;
+  listed = subst (λ (n : ℕ). AllByRecursion (λ x. (1 ≤ x.account) × (x.account ≤ n)) c.args.reserves.now) (sym c.loop-failure.auto.sums) c.requires.listed;
 }
 
 pub add_penalties-requires : goal.add_penalties-requires

@@ -1,8 +1,8 @@
 use Rattle.std.proofs.Common.{◌≡◌, ◌<◌, ◌≢◌, length, get_or, ℤ, pos, ◌+ℤ◌, ap, ◌∙◌, arith, get_or-set_other, get_or-set_same, w64, SFits, to_z, of_z, rules, below_more}
 use borrow.Author.Differences.{ints}
 use Rattle.std.proofs.lemmas.Int.{to_z-of_z}
-use Rattle.items.specs.Items.{at_least_zero}
-use Rattle.items.proofs.penalties.add_penalties.Goals as goal
+use Rattle.charges.specs.Items.{at_least_zero}
+use Rattle.charges.proofs.penalties.add_penalties.Goals as goal
 
 pub loop-i-preserved : goal.loop-i-preserved
 loop-i-preserved c =

@@ -1,7 +1,7 @@
 use Rattle.book.specs.Books.{held}
 use Rattle.correcting.specs.Readings.{correction}
 use Rattle.day.proofs.Given.{refused_is, reread_is}
-use Rattle.day.proofs.correcting.reread.Goals as goal
+use Rattle.day.proofs.corrections.reread.Goals as goal
 
 pub returns-in-Ok : goal.returns-in-Ok
 returns-in-Ok c = record { value = reread_is (held c.args.book.now) c.args.reading c.in-Ok.ensures.value; after = c.in-Ok.ensures.after }

@@ -1,6 +1,6 @@
 use Rattle.std.proofs.Common.{◌≡◌, ℕ, ◌+◌, ◌*◌, ◌<◌, ◌≤◌, length, get_or, take, pos, nat_abs}
-use Rattle.items.specs.Items.{failed_among}
-use Rattle.items.proofs.penalties.add_failed.Given as goal
+use Rattle.charges.specs.Items.{failed_among}
+use Rattle.charges.proofs.penalties.add_failed.Given as goal
 
 abbrev pub invariant-loop-x : goal.invariant-loop-x
 invariant-loop-x l =

@@ -8,8 +8,8 @@ use Rattle.valuation.specs.Valid.{ValidReserve}
 use Rattle.amounts.specs.Amounts.{owned_by}
 use Rattle.amounts.proofs.Adding.{sum_more}
 use Rattle.amounts.proofs.Arrays.{owned_le}
-use Rattle.items.specs.Items.{failed_among, failing}
-use Rattle.items.proofs.penalties.add_failed.Goals as goal
+use Rattle.charges.specs.Items.{failed_among, failing}
+use Rattle.charges.proofs.penalties.add_failed.Goals as goal
 
 pub loop-x-init : goal.loop-x-init
 loop-x-init c = λ k h. (c.requires.clear k h, omega (arith, ap nat_abs (c.requires.clear k h)))

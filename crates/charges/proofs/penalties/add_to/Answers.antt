@@ -1,7 +1,7 @@
 use Rattle.std.proofs.Common.{◌≡◌, ◌-◌, get_or, set, ℤ, pos, ◌+ℤ◌, ap, ◌∙◌, arith, w64, to_z, of_z}
 use borrow.Author.Differences.{ints}
 use Rattle.amounts.proofs.Arrays.{grown_atℤ}
-use Rattle.items.proofs.penalties.add_to.Goals as goal
+use Rattle.charges.proofs.penalties.add_to.Goals as goal
 
 pub returns : goal.returns
 returns c =

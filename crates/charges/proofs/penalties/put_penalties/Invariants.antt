@@ -1,7 +1,7 @@
 use Rattle.std.proofs.Common.{◌≡◌, ℕ, ◌+◌, ◌*◌, ◌<◌, ◌≤◌, length, get_or, take, pos, nat_abs}
 use Rattle.codes.specs.Sums.{sum_over}
-use Rattle.items.specs.Items.{penalty_among}
-use Rattle.items.proofs.penalties.put_penalties.Given as goal
+use Rattle.charges.specs.Items.{penalty_among}
+use Rattle.charges.proofs.penalties.put_penalties.Given as goal
 
 abbrev pub invariant-loop-failure : goal.invariant-loop-failure
 invariant-loop-failure l =
