@@ -6,7 +6,9 @@ usage: python3 tools/respell.py [FOLDER]     once, right after the toolchain's p
 A definition, lemma, field, constructor or module alias of ours that has a dash gets snake case (`record-refusal` becomes
 `record_refusal`), and a type or a fact upper camel case (`Opened-is-sound` becomes `OpenedIsSound`). Names that come from
 the library, from the code or from the toolchain keep their spelling, and so do strings, inputs and outputs. In comments and
-documents a name is respelt where it stands in backticks. Prints the names that would fall together, and then changes nothing.
+documents a name is respelt where it stands in backticks. A word of the library that the port script brings in under another
+of its words (`AllByRecursion as All`), which today's gate refuses, stands under its own name. Prints the names that would fall
+together, and then changes nothing.
 """
 
 import collections
@@ -19,6 +21,17 @@ SIGNATURE = re.compile(r"^\s*(?:(?:pub|abbrev|unfoldable|private|opaque|record|d
 INLINE_FIELD = re.compile(r"record \{\s*([^\s:;{}]+) :")
 ALIAS = re.compile(r"\bas\s+([^\s{},;]+)\s*$")
 LIBRARY = re.compile(r"use (?!Rattle\.(?:%s)\.)[\w.+'-]+\.\{([^}]*)\}")
+
+
+ALIASES = {"AllByRecursion as All": ("All", "AllByRecursion"), "ContainsAt as Has": ("Has", "ContainsAt")}
+
+
+def unaliased(text):
+    """Words of the library under their own names, but for what comments say."""
+    for line, (short, word) in ALIASES.items():
+        if line in text:
+            text = re.sub(r"(?<![\w'-])%s(?![\w'-])" % short, word, text.replace(line, word))
+    return text
 
 
 def files(root, ends, folder="crates"):
@@ -129,7 +142,8 @@ def main(argv):
                 print(f"note: {p}: {old} is the library's here, and stays")
             elif names[old] in skip or (names[old] in used and p.endswith(".antt")):
                 print(f"look: {p}: {old} becomes {names[old]}, which the file has already")
-        new = "".join(turned(t, names, skip) if code else (t if t.startswith('"') else ticked(t, names)) for code, t in parts(text, "//" if p.endswith(".rt") else "--(?= |$)"))
+        text_turned = unaliased(text)
+        new = "".join(turned(t, names, skip) if code else (t if t.startswith('"') else ticked(t, names)) for code, t in parts(text_turned, "//" if p.endswith(".rt") else "--(?= |$)"))
         if new != text:
             changed.append((p, new))
     for folder in ("docs", "."):
