@@ -19,17 +19,8 @@ fn first_record(bytes: &[u8]) -> Result<&[u8], Refusal>
     ensures value { lent result ≡ first_record bytes.now }
     ensures within { IfOk result (λ part. (4 ≤ length part.now) × (length part.now ≤ length bytes.now)) }
 {
-    let [first, second, ..] = bytes else {
-        return Err(Refusal::UnknownMark);
-    };
-    let Some(mark) = Mark::from_letters(*first, *second) else {
-        return Err(Refusal::UnknownMark);
-    };
-    let n = mark.length();
-    if n > bytes.len() {
-        return Err(Refusal::WrongLength);
-    }
-    Ok(&bytes[0..n])
+    let mark = Mark::at_front(bytes).ok_or(Refusal::UnknownMark)?;
+    bytes.get(..mark.length()).ok_or(Refusal::WrongLength)
 }
 
 // The record that begins at the offset.
@@ -38,10 +29,7 @@ fn record_at(file: &[u8], offset: usize) -> Result<&[u8], Fault>
     ensures value { lent result ≡ cut_at file.now offset }
     ensures within { IfOk result (λ part. (4 ≤ length part.now) × (offset + length part.now ≤ length file.now)) }
 {
-    match first_record(&file[offset..]) {
-        Ok(part) => Ok(part),
-        Err(refusal) => Err(Fault::plain(refusal).at_offset(offset)),
-    }
+    first_record(&file[offset..]).map_err(|refusal| Fault::plain(refusal).at_offset(offset))
 }
 
 impl<'a> Reader<'a> {
@@ -56,8 +44,7 @@ impl<'a> Reader<'a> {
     pub fn offset(&self) -> usize
         ensures { result ≡ self.now.offset }
     {
-        let Reader { offset, .. } = self;
-        *offset
+        self.offset
     }
 
     // Was the whole file handed out?
@@ -68,18 +55,15 @@ impl<'a> Reader<'a> {
     }
 
     // The next record's bytes; the offset moves past them. A refusal moves nothing.
+    // Not an Iterator's next: that one would hand out the refusal without end.
     pub fn next(&mut self) -> Result<&'a [u8], Fault>
         ensures file { self.new.file.now ≡ self.old.file.now }
         ensures part { lent result ≡ cut_at self.old.file.now self.old.offset }
         ensures offset { self.new.offset ≡ past self.old.offset (cut_at self.old.file.now self.old.offset) }
         ensures moves { OnOk result (self.old.offset < self.new.offset) }
     {
-        match record_at(self.file, self.offset) {
-            Ok(part) => {
-                self.offset += part.len();
-                Ok(part)
-            }
-            Err(fault) => Err(fault),
-        }
+        let part = record_at(self.file, self.offset)?;
+        self.offset += part.len();
+        Ok(part)
     }
 }

@@ -1,6 +1,7 @@
 -- Headings made of their fields.
 use Rattle.std.specs.Prelude.{◌≡◌, ℕ, Bool, true, false, ◌&&◌, T, Some, None, Option, ◌==◌}
 use Rattle.dayfile.specs.Calendar.{real_heading}
+use Rattle.dayfile.specs.contracts.heading.HeadingPartialEq.TheImpl as compared
 use Rattle.dayfile.specs.declared.heading.Heading.{Heading}
 
 -- a value that can be made where the test holds
@@ -26,3 +27,7 @@ HeadingsAreTheirFields = (a b : Heading) → same_fields a b ≡ true → a ≡ 
 -- what a heading holds is what it could be made of
 abbrev pub HeadingsAreMade : Type 0
 HeadingsAreMade = (a : Heading) → heading_of a.year a.month a.day a.hours a.accounts a.nodes a.interconnections ≡ Some a
+
+-- `==` compares the fields, and nothing else
+abbrev pub HeadingsEqualByFields : Type 0
+HeadingsEqualByFields = (a b : Heading) → (compared.ghosts).eq a b ≡ same_fields a b

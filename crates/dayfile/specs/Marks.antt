@@ -1,5 +1,5 @@
 -- The marks of the day file: the two letters of each, and the length of its record, the mark included.
-use Rattle.std.specs.Prelude.{ℕ, Bool, cond, ◌&&◌, List, Some, None, codes, Option, ◌==◌, slice_index}
+use Rattle.std.specs.Prelude.{ℕ, Bool, cond, ◌&&◌, List, Some, None, codes, Option, ◌==◌, length, nat_lt, slice_index}
 use Rattle.dayfile.specs.declared.mark.Mark.{Mark}
 use Rattle.dayfile.specs.declared.mark.Mark.TheVariants.{Day, Price, Position, Interconnection, Reserve, Failure, Fine, End}
 
@@ -33,3 +33,7 @@ mark_of first second =
     (cond (marked Failure first second) (Some Failure)
     (cond (marked Fine first second) (Some Fine)
     (cond (marked End first second) (Some End) None)))))))
+
+-- the mark that the bytes begin with, if two letters of one do
+abbrev pub mark_at_front : List ℕ → Option Mark
+mark_at_front bytes = cond (nat_lt (length bytes) 2) None (mark_of (slice_index bytes 0) (slice_index bytes 1))

@@ -1,7 +1,7 @@
 // Which dates are real, and the headings made of them.
 ghost use Rattle.std.specs.Prelude.{◌≡◌};
 ghost use Rattle.dayfile.specs.Calendar.{days_in, leap_year, real_heading};
-ghost use Rattle.dayfile.specs.Headings.{HeadingsAreMade, HeadingsAreTheirFields, heading_of, same_fields};
+ghost use Rattle.dayfile.specs.Headings.{HeadingsAreMade, HeadingsAreTheirFields, HeadingsEqualByFields, heading_of};
 
 use crate::heading::Heading;
 
@@ -22,7 +22,7 @@ fn days_in_month(year: u16, month: u8) -> u8
     }
 }
 
-// May a heading hold these?
+// May a heading hold these? Seven parameters, since the one struct of them is a heading, and no heading is unreal.
 fn is_real(
     year: u16,
     month: u8,
@@ -34,19 +34,10 @@ fn is_real(
 ) -> bool
     ensures { result ≡ real_heading year month day hours accounts nodes interconnections }
 {
-    year >= 2016
-        && year <= 2099
-        && month >= 1
-        && month <= 12
-        && day >= 1
-        && day <= days_in_month(year, month)
-        && hours >= 23
-        && hours <= 25
-        && accounts >= 1
-        && accounts <= 32
-        && nodes >= 1
-        && nodes <= 16
-        && interconnections <= 8
+    matches!(
+        (year, month, hours, accounts, nodes, interconnections),
+        (2016..=2099, 1..=12, 23..=25, 1..=32, 1..=16, 0..=8)
+    ) && (1..=days_in_month(year, month)).contains(&day)
 }
 
 impl Heading {
@@ -77,23 +68,9 @@ impl Heading {
     }
 }
 
-// Are two headings the same? They are where their fields are.
-pub fn same_heading(a: Heading, b: Heading) -> bool
-    ensures { result ≡ same_fields a b }
-{
-    a.year == b.year
-        && a.month == b.month
-        && a.day == b.day
-        && a.hours == b.hours
-        && a.accounts == b.accounts
-        && a.nodes == b.nodes
-        && a.interconnections == b.interconnections
-}
-
 // A heading holds nothing but its fields: every heading is the one that they make, and two with the same fields are one.
-pub fn headings_stand() -> u8
+pub fn headings_stand()
     ensures made { HeadingsAreMade }
     ensures same { HeadingsAreTheirFields }
-{
-    0
-}
+    ensures equal { HeadingsEqualByFields }
+{}

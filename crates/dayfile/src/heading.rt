@@ -3,7 +3,7 @@ ghost use Rattle.std.specs.Prelude.{T};
 ghost use Rattle.dayfile.specs.Calendar.{real_heading};
 
 // A heading always has a real date, 23, 24 or 25 hours, and counts within their ranges: no value of another kind can be made.
-#[derive(Clone, Copy)]
+#[derive(Clone, Copy, PartialEq, Eq, Debug)]
 pub struct Heading {
     pub year: u16,
     pub month: u8,

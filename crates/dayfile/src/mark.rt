@@ -1,8 +1,9 @@
 // The two letters that a record begins with, and the length that they give it.
-ghost use Rattle.std.specs.Prelude.{◌≡◌, ◌≤◌};
-ghost use Rattle.dayfile.specs.Marks.{mark_length, mark_letters, mark_of};
+ghost use Rattle.std.specs.Prelude.{◌≡◌, ◌≤◌, slice_index};
+ghost use Rattle.std.specs.Option.{ok_or};
+ghost use Rattle.dayfile.specs.Marks.{mark_at_front, mark_length, mark_letters, mark_of};
 
-#[derive(Clone, Copy)]
+#[derive(Clone, Copy, PartialEq, Eq, Debug)]
 pub enum Mark {
     Day,
     Price,
@@ -14,28 +15,37 @@ pub enum Mark {
     End,
 }
 
-impl Mark {
-    // The mark with these letters, if there is one.
-    pub fn from_letters(first: u8, second: u8) -> Option<Mark>
-        ensures { result ≡ mark_of first second }
-    {
-        match (first, second) {
-            (b'D', b'Y') => Some(Mark::Day),
-            (b'P', b'N') => Some(Mark::Price),
-            (b'E', b'N') => Some(Mark::Position),
-            (b'I', b'X') => Some(Mark::Interconnection),
-            (b'R', b'S') => Some(Mark::Reserve),
-            (b'F', b'T') => Some(Mark::Failure),
-            (b'M', b'U') => Some(Mark::Fine),
-            (b'Z', b'Z') => Some(Mark::End),
-            _ => None,
+// Two letters that are no mark's. An error of its own for each `TryFrom`, as in Rust.
+#[derive(Clone, Copy, PartialEq, Eq, Debug)]
+pub struct UnknownMark(pub [u8; 2]);
+
+// The mark with these letters, if there is one.
+impl TryFrom<[u8; 2]> for Mark {
+    type Error = UnknownMark;
+
+    ghost try_from_gives = { λ letters mark. mark ≡ ok_or (mark_of (slice_index letters 0) (slice_index letters 1)) (record { 0 = letters }) };
+
+    fn try_from(letters: [u8; 2]) -> Result<Mark, UnknownMark> {
+        match letters {
+            [b'D', b'Y'] => Ok(Mark::Day),
+            [b'P', b'N'] => Ok(Mark::Price),
+            [b'E', b'N'] => Ok(Mark::Position),
+            [b'I', b'X'] => Ok(Mark::Interconnection),
+            [b'R', b'S'] => Ok(Mark::Reserve),
+            [b'F', b'T'] => Ok(Mark::Failure),
+            [b'M', b'U'] => Ok(Mark::Fine),
+            [b'Z', b'Z'] => Ok(Mark::End),
+            _ => Err(UnknownMark(letters)),
         }
     }
+}
 
-    pub fn letters(self) -> [u8; 2]
-        ensures { result ≡ mark_letters self }
-    {
-        match self {
+// The letters of the mark.
+impl From<Mark> for [u8; 2] {
+    ghost from_gives = { λ mark letters. letters ≡ mark_letters mark };
+
+    fn from(mark: Mark) -> [u8; 2] {
+        match mark {
             Mark::Day => *b"DY",
             Mark::Price => *b"PN",
             Mark::Position => *b"EN",
@@ -45,6 +55,16 @@ impl Mark {
             Mark::Fine => *b"MU",
             Mark::End => *b"ZZ",
         }
+    }
+}
+
+impl Mark {
+    // The mark that the bytes begin with, if they begin with one.
+    pub fn at_front(bytes: &[u8]) -> Option<Mark>
+        ensures { result ≡ mark_at_front bytes.now }
+    {
+        let (letters, _) = bytes.split_first_chunk()?;
+        Mark::try_from(*letters).ok()
     }
 
     // The length of a record with this mark, the mark included.

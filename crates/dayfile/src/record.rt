@@ -1,45 +1,50 @@
 // The six kinds of record that a book holds, as values.
+// System, unit and kind are plain numbers: a record with an unknown one is decoded, and refused by the book in its turn.
 ghost use Rattle.std.specs.Prelude.{◌≡◌};
+ghost use Rattle.std.specs.Option.{ok_or};
 ghost use Rattle.dayfile.specs.Classes.{class_number, class_of};
 
 // What a position stands for: energy that is put into the system (generation, import) or taken out of it (load, export).
-#[derive(Clone, Copy)]
+#[derive(Clone, Copy, PartialEq, Eq, Debug)]
 pub enum Class {
-    Generation,
-    Load,
-    Import,
-    Export,
+    Generation = 1,
+    Load = 2,
+    Import = 3,
+    Export = 4,
 }
 
-impl Class {
-    // The number that the day file has for the class.
-    pub fn number(self) -> u8
-        ensures { result ≡ class_number self }
-    {
-        match self {
-            Class::Generation => 1,
-            Class::Load => 2,
-            Class::Import => 3,
-            Class::Export => 4,
-        }
-    }
+// A number that no class has. An error of its own for each `TryFrom`, as in Rust.
+#[derive(Clone, Copy, PartialEq, Eq, Debug)]
+pub struct UnknownClass(pub u8);
 
-    // The class with this number, if there is one.
-    pub fn from_number(number: u8) -> Option<Class>
-        ensures { result ≡ class_of number }
-    {
+// The number that the day file has for the class.
+impl From<Class> for u8 {
+    ghost from_gives = { λ class number. number ≡ class_number class };
+
+    fn from(class: Class) -> u8 {
+        class as u8
+    }
+}
+
+// The class with this number, if there is one.
+impl TryFrom<u8> for Class {
+    type Error = UnknownClass;
+
+    ghost try_from_gives = { λ number class. class ≡ ok_or (class_of number) (record { 0 = number }) };
+
+    fn try_from(number: u8) -> Result<Class, UnknownClass> {
         match number {
-            1 => Some(Class::Generation),
-            2 => Some(Class::Load),
-            3 => Some(Class::Import),
-            4 => Some(Class::Export),
-            _ => None,
+            1 => Ok(Class::Generation),
+            2 => Ok(Class::Load),
+            3 => Ok(Class::Import),
+            4 => Ok(Class::Export),
+            _ => Err(UnknownClass(number)),
         }
     }
 }
 
 // The prices of a node in an hour, in centavos per MWh.
-#[derive(Clone, Copy)]
+#[derive(Clone, Copy, PartialEq, Eq, Debug)]
 pub struct Price {
     pub node: u8,
     pub hour: u8,
@@ -49,7 +54,7 @@ pub struct Price {
 
 // An account's energy at a node in an hour, in kWh: what was sold or bought the day before, and what was then
 // metered (generation, load) or scheduled (import, export).
-#[derive(Clone, Copy)]
+#[derive(Clone, Copy, PartialEq, Eq, Debug)]
 pub struct Position {
     pub account: u8,
     pub node: u8,
@@ -61,7 +66,7 @@ pub struct Position {
 
 // The exchange over an interconnection with an external system in an hour, in kWh, and the price of its imbalance
 // in centavos per MWh.
-#[derive(Clone, Copy)]
+#[derive(Clone, Copy, PartialEq, Eq, Debug)]
 pub struct Interconnection {
     pub interconnection: u8,
     pub system: u8,
@@ -75,7 +80,7 @@ pub struct Interconnection {
 }
 
 // A unit's reserve of one kind in an hour: price in centavos per MWh and quantity in kWh, the day before and in real time.
-#[derive(Clone, Copy)]
+#[derive(Clone, Copy, PartialEq, Eq, Debug)]
 pub struct Reserve {
     pub account: u8,
     pub unit: u8,
@@ -88,14 +93,14 @@ pub struct Reserve {
 }
 
 // A unit and kind of reserve that failed the minimum standard in this month.
-#[derive(Clone, Copy)]
+#[derive(Clone, Copy, PartialEq, Eq, Debug)]
 pub struct Failure {
     pub unit: u8,
     pub kind: u8,
 }
 
 // A fine on an account, in centavos.
-#[derive(Clone, Copy)]
+#[derive(Clone, Copy, PartialEq, Eq, Debug)]
 pub struct Fine {
     pub identifier: u32,
     pub account: u8,
@@ -103,7 +108,7 @@ pub struct Fine {
 }
 
 // A record that a book takes.
-#[derive(Clone, Copy)]
+#[derive(Clone, Copy, PartialEq, Eq, Debug)]
 pub enum Record {
     Price(Price),
     Position(Position),

@@ -5,9 +5,10 @@
 mod tests {
     use cutting::reader::Reader;
     use dayfile::heading::Heading;
-    use dayfile::record::{Failure, Record};
+    use dayfile::record::{Failure, Price, Record};
     use dayfile_encode::{encode_end, encode_failure, encode_heading};
     use decoding::decode::{decode_end, decode_heading, decode_record};
+    use faults::fault::Fault;
     use std::test::Fail;
 
     // 2019-03-05 with 24 hours, 3 accounts, 1 node and 1 interconnection.
@@ -21,19 +22,9 @@ mod tests {
     const CUT_SHORT: [u8; 20] =
         *b"DY\x07\xe3\x03\x05\x18\x03\x01\x01PN\x01\x07\x00\x00\xc3\x50\xff\xff";
 
-    // The number of a heading's refusal, 0 where there is none.
-    fn heading_refused(bytes: &[u8]) -> u8 {
-        match decode_heading(bytes) {
-            Ok(_) => 0,
-            Err(fault) => fault.number(),
-        }
-    }
-
-    fn record_refused(bytes: &[u8]) -> u8 {
-        match decode_record(bytes) {
-            Ok(_) => 0,
-            Err(fault) => fault.number(),
-        }
+    // The number of a refusal, if there is one.
+    fn refused<T: Drop>(answer: Result<T, Fault>) -> Option<u8> {
+        answer.err().map(|fault| fault.number())
     }
 
     // May a day of 24 hours have this date?
@@ -47,29 +38,23 @@ mod tests {
 
     #[test]
     fn short_records(rt: HostRuntime) {
-        assert_eq!(rt; heading_refused(b""), 2);
-        assert_eq!(rt; heading_refused(b"D"), 2);
-        assert_eq!(rt; heading_refused(b"dy"), 2);
-        assert_eq!(rt; heading_refused(b"DY\x07\xe3\x03"), 3);
-        assert_eq!(rt; record_refused(b"MU"), 3);
+        assert_eq!(rt; refused(decode_heading(b"")), Some(2));
+        assert_eq!(rt; refused(decode_heading(b"D")), Some(2));
+        assert_eq!(rt; refused(decode_heading(b"dy")), Some(2));
+        assert_eq!(rt; refused(decode_heading(b"DY\x07\xe3\x03")), Some(3));
+        assert_eq!(rt; refused(decode_record(b"MU")), Some(3));
     }
 
     #[test]
-    fn marks_of_other_calls(rt: HostRuntime) -> Result<(), Fail> {
+    fn marks_of_other_calls(rt: HostRuntime) {
         let failure = encode_failure(Failure { unit: 1, kind: 2 });
         let end = encode_end(513);
-        assert_eq!(rt; heading_refused(&failure), 4);
-        assert_eq!(rt; record_refused(&failure), 0);
-        assert_eq!(rt; record_refused(&end), 4);
-        assert_eq!(rt; heading_refused(&HEADING), 0);
-        assert_eq!(rt; record_refused(&HEADING), 4);
-        match decode_end(&end) {
-            Ok(count) => {
-                assert_eq!(rt; count, 513);
-                Ok(())
-            },
-            Err(_) => Err(Fail::new("an end record was refused")),
-        }
+        assert_eq!(rt; refused(decode_heading(&failure)), Some(4));
+        assert_eq!(rt; refused(decode_record(&failure)), None);
+        assert_eq!(rt; refused(decode_record(&end)), Some(4));
+        assert_eq!(rt; refused(decode_heading(&HEADING)), None);
+        assert_eq!(rt; refused(decode_record(&HEADING)), Some(4));
+        assert_eq!(rt; decode_end(&end), Ok(513));
     }
 
     #[test]
@@ -92,64 +77,49 @@ mod tests {
     }
 
     #[test]
-    fn heading_comes_back(rt: HostRuntime) -> Result<(), Fail> {
-        match Heading::new(2019, 3, 5, 24, 3, 1, 1) {
-            Some(heading) => {
-                assert!(rt; encode_heading(heading) == HEADING);
-                Ok(())
-            },
-            None => Err(Fail::new("a real heading was refused")),
-        }
+    fn heading_comes_back(rt: HostRuntime) {
+        let heading = Heading::new(2019, 3, 5, 24, 3, 1, 1);
+        assert_eq!(rt; heading.map(encode_heading), Some(HEADING));
     }
 
     #[test]
     fn a_whole_file(rt: HostRuntime) -> Result<(), Fail> {
         let mut reader = Reader::new(&FILE);
-        assert_eq!(rt; part_length(&mut reader), 10);
-        match reader.next() {
-            Ok(part) => match decode_record(part) {
-                Ok(Record::Price(price)) => {
-                    assert_eq!(rt; price.hour, 7);
-                    assert_eq!(rt; price.day_ahead, 50000);
-                    assert_eq!(rt; price.real_time, -1);
-                }
-                _ => return Err(Fail::new("a price was expected")),
-            },
-            Err(_) => return Err(Fail::new("a record was expected")),
-        }
+        assert_eq!(rt; part_length(&mut reader), Some(10));
+        let part = reader.next()?;
+        let price = Price {
+            node: 1,
+            hour: 7,
+            day_ahead: 50000,
+            real_time: -1,
+        };
+        assert_eq!(rt; decode_record(part), Ok(Record::Price(price)));
         assert!(rt; !reader.at_end());
-        assert_eq!(rt; part_length(&mut reader), 4);
+        assert_eq!(rt; part_length(&mut reader), Some(4));
         assert!(rt; reader.at_end());
-        match reader.next() {
-            Ok(_) => Err(Fail::new("the file was at its end")),
-            Err(fault) => {
-                assert_eq!(rt; fault.number(), 2);
-                assert_eq!(rt; fault.place.offset, 26);
-                Ok(())
-            }
-        }
+        let Err(fault) = reader.next() else {
+            return Err(Fail::new("the file was at its end"));
+        };
+        assert_eq!(rt; fault.number(), 2);
+        assert_eq!(rt; fault.place.offset, 26);
+        Ok(())
     }
 
-    // The length of the next record, 0 where it is refused.
-    fn part_length(reader: &mut Reader) -> usize {
-        match reader.next() {
-            Ok(part) => part.len(),
-            Err(_) => 0,
-        }
+    // The length of the next record, if it is not refused.
+    fn part_length(reader: &mut Reader) -> Option<usize> {
+        reader.next().ok().map(|part| part.len())
     }
 
     #[test]
     fn a_file_cut_short(rt: HostRuntime) -> Result<(), Fail> {
         let mut reader = Reader::new(&CUT_SHORT);
-        assert_eq!(rt; part_length(&mut reader), 10);
-        match reader.next() {
-            Ok(_) => Err(Fail::new("the record is not whole")),
-            Err(fault) => {
-                assert_eq!(rt; fault.number(), 3);
-                assert_eq!(rt; fault.place.offset, 10);
-                assert_eq!(rt; reader.offset(), 10);
-                Ok(())
-            }
-        }
+        assert_eq!(rt; part_length(&mut reader), Some(10));
+        let Err(fault) = reader.next() else {
+            return Err(Fail::new("the record is not whole"));
+        };
+        assert_eq!(rt; fault.number(), 3);
+        assert_eq!(rt; fault.place.offset, 10);
+        assert_eq!(rt; reader.offset(), 10);
+        Ok(())
     }
 }

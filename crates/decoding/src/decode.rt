@@ -15,12 +15,7 @@ fn mark_of(bytes: &[u8]) -> Result<Mark, Fault>
     ensures value { result ≡ whole_mark bytes.now }
     ensures whole { IfOk result (λ m. length bytes.now ≡ mark_length m) }
 {
-    let [first, second, ..] = bytes else {
-        return Err(Fault::plain(Refusal::UnknownMark));
-    };
-    let Some(mark) = Mark::from_letters(*first, *second) else {
-        return Err(Fault::plain(Refusal::UnknownMark));
-    };
+    let mark = Mark::at_front(bytes).ok_or(Fault::plain(Refusal::UnknownMark))?;
     if bytes.len() != mark.length() {
         return Err(Fault::plain(Refusal::WrongLength));
     }
@@ -31,10 +26,9 @@ fn mark_of(bytes: &[u8]) -> Result<Mark, Fault>
 pub fn decode_heading(bytes: &[u8]) -> Result<Heading, Fault>
     ensures { result ≡ decoded_heading bytes.now }
 {
-    match mark_of(bytes) {
-        Ok(Mark::Day) => fields::heading(bytes).ok_or(Fault::plain(Refusal::OutOfRange)),
-        Ok(_) => Err(Fault::plain(Refusal::UnexpectedMark)),
-        Err(fault) => Err(fault),
+    match mark_of(bytes)? {
+        Mark::Day => fields::heading(bytes).ok_or(Fault::plain(Refusal::OutOfRange)),
+        _ => Err(Fault::plain(Refusal::UnexpectedMark)),
     }
 }
 
@@ -42,18 +36,14 @@ pub fn decode_heading(bytes: &[u8]) -> Result<Heading, Fault>
 pub fn decode_record(bytes: &[u8]) -> Result<Record, Fault>
     ensures { result ≡ decoded_record bytes.now }
 {
-    match mark_of(bytes) {
-        Ok(Mark::Price) => Ok(Record::Price(fields::price(bytes))),
-        Ok(Mark::Position) => match fields::position(bytes) {
-            Ok(position) => Ok(Record::Position(position)),
-            Err(fault) => Err(fault),
-        },
-        Ok(Mark::Interconnection) => Ok(Record::Interconnection(fields::interconnection(bytes))),
-        Ok(Mark::Reserve) => Ok(Record::Reserve(fields::reserve(bytes))),
-        Ok(Mark::Failure) => Ok(Record::Failure(fields::failure(bytes))),
-        Ok(Mark::Fine) => Ok(Record::Fine(fields::fine(bytes))),
-        Ok(Mark::Day | Mark::End) => Err(Fault::plain(Refusal::UnexpectedMark)),
-        Err(fault) => Err(fault),
+    match mark_of(bytes)? {
+        Mark::Price => Ok(Record::Price(fields::price(bytes))),
+        Mark::Position => fields::position(bytes).map(Record::Position),
+        Mark::Interconnection => Ok(Record::Interconnection(fields::interconnection(bytes))),
+        Mark::Reserve => Ok(Record::Reserve(fields::reserve(bytes))),
+        Mark::Failure => Ok(Record::Failure(fields::failure(bytes))),
+        Mark::Fine => Ok(Record::Fine(fields::fine(bytes))),
+        Mark::Day | Mark::End => Err(Fault::plain(Refusal::UnexpectedMark)),
     }
 }
 
@@ -61,10 +51,9 @@ pub fn decode_record(bytes: &[u8]) -> Result<Record, Fault>
 pub fn decode_end(bytes: &[u8]) -> Result<u16, Fault>
     ensures { result ≡ decoded_end bytes.now }
 {
-    match mark_of(bytes) {
-        Ok(Mark::End) => Ok(fields::count(bytes)),
-        Ok(_) => Err(Fault::plain(Refusal::UnexpectedMark)),
-        Err(fault) => Err(fault),
+    match mark_of(bytes)? {
+        Mark::End => Ok(fields::count(bytes)),
+        _ => Err(Fault::plain(Refusal::UnexpectedMark)),
     }
 }
 

@@ -1,11 +1,14 @@
 // What a refused call answers: the reason, and the place that it is about.
-ghost use Rattle.std.specs.Prelude.{◌≡◌};
+ghost use Rattle.std.specs.Prelude.{◌≡◌, Some};
 ghost use Rattle.faults.specs.Numbers.{refusal_layer, refusal_number};
-ghost use Rattle.faults.specs.Places.{at, fault_of, nowhere, plain, reading_at};
+ghost use Rattle.faults.specs.Places.{at, fault_of, fault_text, nowhere, place_text, plain, reading_at};
 
 use crate::refusal::{Layer, Refusal};
+use std::error::Error;
+use std::fmt;
 
 // Where a refused record stands in a file, and the account, node and hour that it names; 0 for what there is none of.
+// No Options: the line of a refusal prints 0.
 #[derive(Clone, Copy, PartialEq, Eq, Debug)]
 pub struct Place {
     pub offset: usize,
@@ -21,7 +24,7 @@ pub struct Fault {
 }
 
 impl Place {
-    // No place.
+    // No place. Its name says more than that of a Default.
     pub fn none() -> Self
         ensures { result ≡ nowhere }
     {
@@ -38,10 +41,10 @@ impl Place {
         ensures { result ≡ at account node hour }
     {
         Place {
-            offset: 0,
             account,
             node,
             hour,
+            ..Place::none()
         }
     }
 }
@@ -67,7 +70,7 @@ impl Fault {
     pub fn number(&self) -> u8
         ensures { result ≡ refusal_number self.now.refusal }
     {
-        self.refusal.number()
+        u8::from(self.refusal)
     }
 
     pub fn layer(&self) -> Layer
@@ -80,11 +83,37 @@ impl Fault {
     pub fn at_offset(self, offset: usize) -> Self
         ensures { result ≡ reading_at offset self }
     {
-        let mut place = self.place;
-        place.offset = offset;
         Fault {
-            refusal: self.refusal,
-            place,
+            place: Place {
+                offset,
+                ..self.place
+            },
+            ..self
         }
     }
 }
+
+// The offset, account, node and hour, with a space between.
+impl fmt::Display for Place {
+    ghost output = { λ place. Some (place_text place) };
+
+    fn fmt<W: fmt::Write>(&self, f: &mut fmt::Formatter<W>) -> fmt::Result {
+        write!(
+            f,
+            "{} {} {} {}",
+            self.offset, self.account, self.node, self.hour
+        )
+    }
+}
+
+// The numbers of the reason and of its layer, and the place, with a space between.
+impl fmt::Display for Fault {
+    ghost output = { λ fault. Some (fault_text fault) };
+
+    fn fmt<W: fmt::Write>(&self, f: &mut fmt::Formatter<W>) -> fmt::Result {
+        let layer = u8::from(self.layer());
+        write!(f, "{} {layer} {}", self.number(), self.place)
+    }
+}
+
+impl Error for Fault {}

@@ -5,11 +5,11 @@ ghost use Rattle.faults.specs.Numbers.{layer_number, refusal_layer, refusal_numb
 // The layer that a refusal belongs to.
 #[derive(Clone, Copy, PartialEq, Eq, Debug)]
 pub enum Layer {
-    File,
-    Book,
-    Settlement,
-    Issue,
-    Rule,
+    File = 1,
+    Book = 2,
+    Settlement = 3,
+    Issue = 4,
+    Rule = 5,
 }
 
 // Every reason for which a call is refused, in the order in which a call asks them.
@@ -17,77 +17,57 @@ pub enum Layer {
 #[derive(Clone, Copy, PartialEq, Eq, Debug)]
 pub enum Refusal {
     // The memory handed over is not the day's, or holds what no call would have left in it.
-    UnsoundMemory,
+    UnsoundMemory = 1,
     // Fewer than two bytes are left, or they are no mark.
-    UnknownMark,
+    UnknownMark = 2,
     // The record is not as long as its mark says, or the file ends inside it.
-    WrongLength,
+    WrongLength = 3,
     // The mark is a known one that this call does not take.
-    UnexpectedMark,
+    UnexpectedMark = 4,
     // A field lies outside its range, or the date does not exist.
-    OutOfRange,
+    OutOfRange = 5,
     // An account, node, hour or interconnection is above the heading's count.
-    AboveHeading,
+    AboveHeading = 6,
     // A record with this key is in the book.
-    KeyTaken,
+    KeyTaken = 7,
     // The book has no room for another record of this kind.
-    TableFull,
+    TableFull = 8,
     // The end record's count is wrong, or bytes follow it.
-    WrongCount,
+    WrongCount = 9,
     // A node and hour that are needed have no price.
-    NoPrice,
+    NoPrice = 10,
     // An hour has an amount to share and no purchases.
-    NoPurchases,
+    NoPurchases = 11,
     // No position has the key asked for.
-    NoPosition,
+    NoPosition = 12,
     // The ledger has fewer free entries than there are notes to add.
-    LedgerFull,
+    LedgerFull = 13,
     // The last issue that a day may have was made.
-    NoIssueLeft,
+    NoIssueLeft = 14,
     // The text is longer than the buffer.
-    BufferTooShort,
+    BufferTooShort = 15,
     // A sharing rule was asked to share what it cannot.
-    NotShareable,
+    NotShareable = 16,
 }
 
-impl Layer {
-    pub fn number(self) -> u8
-        ensures { result ≡ layer_number self }
-    {
-        match self {
-            Layer::File => 1,
-            Layer::Book => 2,
-            Layer::Settlement => 3,
-            Layer::Issue => 4,
-            Layer::Rule => 5,
-        }
+impl From<Layer> for u8 {
+    ghost from_gives = { λ layer number. number ≡ layer_number layer };
+
+    fn from(layer: Layer) -> u8 {
+        layer as u8
+    }
+}
+
+// The number by which the market's documents know the reason.
+impl From<Refusal> for u8 {
+    ghost from_gives = { λ refusal number. number ≡ refusal_number refusal };
+
+    fn from(refusal: Refusal) -> u8 {
+        refusal as u8
     }
 }
 
 impl Refusal {
-    pub fn number(self) -> u8
-        ensures { result ≡ refusal_number self }
-    {
-        match self {
-            Refusal::UnsoundMemory => 1,
-            Refusal::UnknownMark => 2,
-            Refusal::WrongLength => 3,
-            Refusal::UnexpectedMark => 4,
-            Refusal::OutOfRange => 5,
-            Refusal::AboveHeading => 6,
-            Refusal::KeyTaken => 7,
-            Refusal::TableFull => 8,
-            Refusal::WrongCount => 9,
-            Refusal::NoPrice => 10,
-            Refusal::NoPurchases => 11,
-            Refusal::NoPosition => 12,
-            Refusal::LedgerFull => 13,
-            Refusal::NoIssueLeft => 14,
-            Refusal::BufferTooShort => 15,
-            Refusal::NotShareable => 16,
-        }
-    }
-
     pub fn layer(self) -> Layer
         ensures { result ≡ refusal_layer self }
     {

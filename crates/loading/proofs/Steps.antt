@@ -14,10 +14,10 @@ entry_ok : (next offset : ℕ) (b : Records) (o : Result Record Fault) → Ok tt
 entry_ok next offset b (Ok x) e = refl
 entry_ok next offset b (Err f) e = let z : ◌≡◌ {A = ℕ} 0 1 = cc in absurd (omega arith)
 
-entry_err : (next offset : ℕ) (b : Records) (f : Fault) (o : Result Record Fault) → Err f ≡ answer o
-    → is_over (Err (reading_at offset f)) ≡ after_entry next b (at_offset offset o)
+entry_err : (next offset : ℕ) (b : Records) (f : Fault) (o : Result Record Fault) → at_offset offset (answer o) ≡ Err f
+    → is_over (Err f) ≡ after_entry next b (at_offset offset o)
 entry_err next offset b f (Ok x) e = let z : ◌≡◌ {A = ℕ} 0 1 = cc in absurd (omega arith)
-entry_err next offset b f (Err g) e = let z : f ≡ g = cc in ap (λ h. is_over (Err (reading_at offset h))) z
+entry_err next offset b f (Err g) e = let z : f ≡ reading_at offset g = cc in ap (λ h. is_over (Err h)) z
 
 -- which of the two a record is
 pub ends : (last : Bool) (offset : ℕ) (b : Records) (part : List ℕ) → is_ok (decoded_end part) ≡ true
@@ -34,8 +34,8 @@ pub enters_ok : (last : Bool) (offset : ℕ) (b : Records) (part : List ℕ) →
     → goes_on (offset + length part) (entered b (admitted b part)) ≡ after_record last offset b part
 enters_ok last offset b part n e = entry_ok (offset + length part) offset b (admitted b part) e ∙ sym (enters last offset b part n)
 
-pub enters_err : (last : Bool) (offset : ℕ) (b : Records) (part : List ℕ) (f : Fault) → is_ok (decoded_end part) ≡ false → Err f ≡ answer (admitted b part)
-    → is_over (Err (reading_at offset f)) ≡ after_record last offset b part
+pub enters_err : (last : Bool) (offset : ℕ) (b : Records) (part : List ℕ) (f : Fault) → is_ok (decoded_end part) ≡ false
+    → at_offset offset (answer (admitted b part)) ≡ Err f → is_over (Err f) ≡ after_record last offset b part
 enters_err last offset b part f n e = entry_err (offset + length part) offset b f (admitted b part) e ∙ sym (enters last offset b part n)
 
 -- with enough turns left, a record that leads on leaves enough

@@ -1,5 +1,5 @@
 -- A file loaded into a book: its first record opens the book, each record after it is entered, and the first end record closes it.
-use Rattle.std.specs.Prelude.{ℕ, zero, suc, ◌+◌, ◌<◌, Bool, cond, List, length, is_ok, Ok, Err, Result, ◌==◌}
+use Rattle.std.specs.Prelude.{ℕ, zero, suc, ◌+◌, Bool, true, false, cond, List, length, is_ok, Ok, Err, Result, ◌==◌}
 use Rattle.faults.specs.Places.{plain, reading_at}
 use Rattle.faults.specs.declared.fault.Fault.{Fault}
 use Rattle.faults.specs.declared.refusal.Refusal.TheVariants.{UnknownMark, WrongCount}
@@ -10,8 +10,6 @@ use Rattle.decoding.specs.Decoded.{and_then, decoded_end, decoded_heading}
 use Rattle.cutting.specs.Cuts.{cut_at, past}
 use Rattle.book.specs.Books.{admitted, no_records, with_record}
 use Rattle.closing.specs.Prices.{closing}
-use Rattle.loading.specs.declared.turn.Turn.{Turn}
-use Rattle.loading.specs.declared.turn.Turn.TheVariants.{More, Over}
 
 -- what comes of one record: the load goes on at an offset with these records, or is over
 pub data Step : Type 0 where
@@ -56,13 +54,17 @@ unfoldable pub records_from : ℕ → List ℕ → ℕ → Records → Result Re
 records_from zero file offset b = Err (reading_at offset (plain UnknownMark))
 records_from (suc n) file offset b = follow (records_from n file) (step file offset b)
 
+-- all records from an offset on; no file has more records than bytes
+abbrev pub records_ahead : List ℕ → ℕ → Records → Result Records Fault
+records_ahead file offset b = records_from (suc (length file)) file offset b
+
 -- the heading that a file begins with
 abbrev pub opening : List ℕ → Result Heading Fault
 opening file = and_then (cut_at file 0) decoded_heading
 
--- the records of a file after its heading, or the first fault among them; no file has more records than bytes
+-- the records of a file after its heading, or the first fault among them
 abbrev pub records_under : List ℕ → Heading → Result Records Fault
-records_under file heading = records_from (suc (length file)) file (past 0 (cut_at file 0)) (no_records heading)
+records_under file heading = records_ahead file (past 0 (cut_at file 0)) (no_records heading)
 
 -- the records of a file, or its first fault
 abbrev pub file_records : List ℕ → Result Records Fault
@@ -86,12 +88,8 @@ abbrev pub answered : Result (Unit {0}) Fault → Records → Result Records Fau
 answered (Ok _) b = Ok b
 answered (Err f) b = Err f
 
--- a turn of the load, with the offset and the records after it
-abbrev pub turned : Turn → ℕ → Records → Step
-turned More offset b = goes_on offset b
-turned (Over result) offset b = is_over (answered result b)
-
--- a turn that is not the last moves on in the file
-abbrev pub MovesOn : Turn → ℕ → ℕ → Type 0
-MovesOn More before after = before < after
-MovesOn (Over _) before after = Unit {0}
+-- what comes of one record, where a load goes on after `true` with the offset and the records after it
+abbrev pub turned : Result Bool Fault → ℕ → Records → Step
+turned (Ok true) offset b = goes_on offset b
+turned (Ok false) offset b = is_over (Ok b)
+turned (Err f) offset b = is_over (Err f)

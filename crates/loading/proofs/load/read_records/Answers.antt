@@ -1,32 +1,44 @@
-use Rattle.std.proofs.Common.{suc, ◌≤◌, length, refl, ap, ◌∙◌, arith}
+use Rattle.std.proofs.Common.{◌≡◌, suc, ◌≤◌, true, false, length, Ok, Err, sym, refl, ap, ◌∙◌, arith, rules}
 use Rattle.book.specs.Books.{held}
-use Rattle.loading.specs.Loading.{step}
+use Rattle.loading.specs.Loading.{answered, step, turned}
 use Rattle.loading.proofs.Steps.{goes_further, stops}
 use Rattle.loading.proofs.load.read_records.Goals as goal
 
-pub loop-answer-init : goal.loop-answer-init
-loop-answer-init c = (refl, (suc (length c.args.reader.now.file.now), omega arith, refl))
+pub loop-init : goal.loop-init
+loop-init c = (refl, (suc (length c.args.reader.now.file.now), omega arith, refl))
 
-pub loop-answer-smaller : goal.loop-answer-smaller
-loop-answer-smaller c =
-    let e = c.in-More.ensures in
-    omega (arith, e.moves, ap length e.file, c.take_next.new.reader.inside)
-
-pub loop-answer-preserved : goal.loop-answer-preserved
-loop-answer-preserved c =
-    let e = c.in-More.ensures in
-    let i = c.loop-answer.invariant in
+pub loop-preserved : goal.loop-preserved
+loop-preserved c =
+    let e = c.take_next.ensures in
+    let i = c.loop.invariant in
     let file = c.args.reader.now.file.now in
+    let new = c.take_next.new in
+    let more : c.take_next.result ≡ Ok true = search rules in
     let same = e.file ∙ i.0 in
-    let inside : c.take_next.new.reader.offset ≤ length file = omega (arith, ap length same, c.take_next.new.reader.inside) in (
+    let inside : new.reader.offset ≤ length file = omega (arith, ap length same, new.reader.inside) in (
       same,
-      goes_further i.1.0 file c.loop-answer.reader.offset c.take_next.new.reader.offset (held c.loop-answer.book) (held c.take_next.new.book) _
-          i.1.1 e.moves inside (e.value ∙ ap (λ f. step f c.loop-answer.reader.offset (held c.loop-answer.book)) i.0) i.1.2,
+      goes_further i.1.0 file c.loop.reader.offset new.reader.offset (held c.loop.book) (held new.book) _
+          i.1.1 (e.moves more) inside
+          (ap (λ r. turned r new.reader.offset (held new.book)) (sym more) ∙ e.value ∙ ap (λ f. step f c.loop.reader.offset (held c.loop.book)) i.0) i.1.2,
     )
 
-pub returns-in-Over : goal.returns-in-Over
-returns-in-Over c =
-    let e = c.in-Over.ensures in
-    let i = c.loop-answer.invariant in
-    stops i.1.0 c.args.reader.now.file.now c.loop-answer.reader.offset (held c.loop-answer.book) _ _
-    i.1.1 (e.value ∙ ap (λ f. step f c.loop-answer.reader.offset (held c.loop-answer.book)) i.0) i.1.2
+pub returns : goal.returns
+returns c =
+    let e = c.take_next.ensures in
+    let i = c.loop.invariant in
+    let new = c.take_next.new in
+    let over : c.take_next.result ≡ Ok false = search rules in
+    stops i.1.0 c.args.reader.now.file.now c.loop.reader.offset (held c.loop.book) _ _ i.1.1
+    (ap (λ r. turned r new.reader.offset (held new.book)) (sym over) ∙ e.value ∙ ap (λ f. step f c.loop.reader.offset (held c.loop.book)) i.0) i.1.2
+
+pub returns-in_err-take_next : goal.returns-in_err-take_next
+returns-in_err-take_next c =
+    let e = c.take_next.ensures in
+    let i = c.loop.invariant in
+    let new = c.take_next.new in
+    let fault = c.in_err-take_next.field-0.0 in
+    let same : c.from_residual.result ≡ Err fault = search rules in
+    let over : c.take_next.result ≡ Err fault = c.in_err-take_next.was in
+    ap (λ r. answered r (held new.book)) same
+    ∙ stops i.1.0 c.args.reader.now.file.now c.loop.reader.offset (held c.loop.book) _ _ i.1.1
+    (ap (λ r. turned r new.reader.offset (held new.book)) (sym over) ∙ e.value ∙ ap (λ f. step f c.loop.reader.offset (held c.loop.book)) i.0) i.1.2
