@@ -2,7 +2,6 @@
 #![tactic(auto)]
 
 use book::book::Book;
-use faults::fault::Fault;
 use loading::load::load;
 use std::alloc::{AllocError, Global};
 use std::io;
@@ -16,15 +15,6 @@ const POSITION: &[u8] = b"EN\x01\x01\x07\x01\x00\x00\x0b\xb8\x00\x00\x0c\x1c";
 // Interconnection 1, system 1, node 1, hour 7: real-time export 100, imbalance price 55,000.
 const EXCHANGE: &[u8] = b"IX\x01\x01\x01\x07\0\0\0\0\0\0\0\0\0\0\0\x64\0\0\0\0\x00\x00\xd6\xd8";
 
-// The parts of a file, one after the other.
-fn joined(heap: Global, parts: &[&[u8]]) -> Result<Vec<u8>, AllocError> {
-    let mut file = Vec::new(heap);
-    for part in parts {
-        file.extend_from_slice(part)?;
-    }
-    Ok(file)
-}
-
 // A heading and so many fines on account 1, with identifiers from 0 on.
 fn with_fines(heap: Global, count: u8) -> Result<Vec<u8>, AllocError> {
     let mut file = Vec::from_slice(heap, HEADING)?;
@@ -35,31 +25,19 @@ fn with_fines(heap: Global, count: u8) -> Result<Vec<u8>, AllocError> {
     Ok(file)
 }
 
-// Number, layer, offset, account, node and hour of a fault, and how many records the book then holds.
-fn show_fault(rt: &HostRuntime, name: &str, fault: &Fault, left: u128) -> io::Result<()> {
-    let number = fault.number();
-    let layer = fault.layer().number();
-    let offset = fault.place.offset;
-    let account = fault.place.account;
-    let node = fault.place.node;
-    let hour = fault.place.hour;
-    println!(rt;
-        "{name}: refused {number} {layer} {offset} {account} {node} {hour}, {left} records"
-    )
-}
-
+// What comes of loading the file, and how many records the book then holds.
 fn show(rt: &HostRuntime, book: &mut Book, name: &str, file: &[u8]) -> io::Result<()> {
     let answer = load(book, file);
     let left = book.record_count();
     match answer {
         Ok(()) => println!(rt; "{name}: accepted, {left} records"),
-        Err(fault) => show_fault(rt, name, &fault, left),
+        Err(fault) => println!(rt; "{name}: refused {fault}, {left} records"),
     }
 }
 
 fn show_parts(rt: &HostRuntime, book: &mut Book, name: &str, parts: &[&[u8]]) -> io::Result<()> {
-    let file = joined(rt.alloc(), parts)?;
-    show(rt, book, name, file.as_slice())
+    let file = parts.concat(rt.alloc())?;
+    show(rt, book, name, &file)
 }
 
 fn headings(rt: &HostRuntime, book: &mut Book) -> io::Result<()> {
@@ -209,7 +187,7 @@ fn main(rt: HostRuntime) -> io::Result<()> {
     records(&rt, &mut book)?;
     ends(&rt, &mut book)?;
     let full = with_fines(rt.alloc(), 50)?;
-    show(&rt, &mut book, "a full table of fines", full.as_slice())?;
+    show(&rt, &mut book, "a full table of fines", &full)?;
     let overfull = with_fines(rt.alloc(), 51)?;
-    show(&rt, &mut book, "one fine too many", overfull.as_slice())
+    show(&rt, &mut book, "one fine too many", &overfull)
 }

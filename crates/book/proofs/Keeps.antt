@@ -126,17 +126,17 @@ one_more b (kind.Fine p) = omega (arith, length_push b.fines p)
 -- nothing was against what was accepted
 pub unless_ok : {X : Type 0} (o : Option Refusal) (place : Place) (x y : X) → unless o place x ≡ Ok y → o ≡ None
 unless_ok None place x y e = refl
-unless_ok (Some r) place x y e = let z : ◌≡◌ {A = ℕ} 0 1 = cc in absurd (omega arith)
+unless_ok (Some r) place x y e = cc
 
 itself : {X : Type 0} (o : Option Refusal) (place : Place) (x y : X) → unless o place x ≡ Ok y → x ≡ y
 itself None place x y e = cc
-itself (Some r) place x y e = let z : ◌≡◌ {A = ℕ} 0 1 = cc in absurd (omega arith)
+itself (Some r) place x y e = cc
 
 -- nor against a record that was decoded first
 unrefused : (b : Records) (o : Result Record Fault) (x : Record) → and_then o (admission b) ≡ Ok x → record_refusal b x ≡ None
 unrefused b (Ok y) x e =
     ap (record_refusal b) (sym (itself (record_refusal b y) (place_of y) y x e)) ∙ unless_ok (record_refusal b y) (place_of y) y x e
-unrefused b (Err f) x e = let z : ◌≡◌ {A = ℕ} 0 1 = cc in absurd (omega arith)
+unrefused b (Err f) x e = cc
 
 pub entering_keeps_sound : EnteringKeepsSound
 entering_keeps_sound b bytes x s e =

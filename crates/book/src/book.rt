@@ -7,6 +7,7 @@ use dayfile::record::{Failure, Fine, Interconnection, Position, Price, Reserve};
 
 // Whoever holds a book may write what they like into it. What a book always has is room for all records that may be
 // entered, so that no call but the one that makes a book can fail for want of memory.
+// Six vectors, and no table of its own type: whoever holds a book reads and writes them as any Vec.
 #[derive(Drop)]
 pub struct Book {
     pub heading: Heading,

@@ -1,5 +1,5 @@
 // How many records of each kind a book holds.
-#[derive(Clone, Copy)]
+#[derive(Clone, Copy, PartialEq, Eq, Debug)]
 pub struct Counts {
     pub prices: usize,
     pub positions: usize,

@@ -5,13 +5,11 @@ ghost use Rattle.book.specs.Books.{admission, admitted, answer, entered, held, n
 
 use crate::book::Book;
 use dayfile::heading::Heading;
-use dayfile::record::Record;
+use dayfile::record::{Failure, Fine, Interconnection, Position, Price, Record, Reserve};
 use decoding::decode::{decode_heading, decode_record, place_of};
 use faults::fault::Fault;
 use faults::refusal::Refusal;
-use rows::kinds::{
-    FAILURE_ROOM, FINE_ROOM, INTERCONNECTION_ROOM, POSITION_ROOM, PRICE_ROOM, RESERVE_ROOM,
-};
+use rows::row::Row;
 use rows::table::refusal_after;
 use std::alloc::{AllocError, Global};
 
@@ -35,26 +33,14 @@ impl Book {
     pub fn new(heap: Global) -> Result<Book, AllocError>
         ensures { IfOk result (λ book. held book ≡ no_records new_heading) }
     {
-        Book::with_heading(heap, new_heading())
-    }
-
-    fn with_heading(heap: Global, heading: Heading) -> Result<Book, AllocError>
-        ensures { IfOk result (λ book. held book ≡ no_records heading) }
-    {
-        let prices = Vec::with_capacity(heap, PRICE_ROOM)?;
-        let positions = Vec::with_capacity(heap, POSITION_ROOM)?;
-        let interconnections = Vec::with_capacity(heap, INTERCONNECTION_ROOM)?;
-        let reserves = Vec::with_capacity(heap, RESERVE_ROOM)?;
-        let failures = Vec::with_capacity(heap, FAILURE_ROOM)?;
-        let fines = Vec::with_capacity(heap, FINE_ROOM)?;
         Ok(Book {
-            heading,
-            prices,
-            positions,
-            interconnections,
-            reserves,
-            failures,
-            fines,
+            heading: new_heading(),
+            prices: Vec::with_capacity(heap, Price::ROOM)?,
+            positions: Vec::with_capacity(heap, Position::ROOM)?,
+            interconnections: Vec::with_capacity(heap, Interconnection::ROOM)?,
+            reserves: Vec::with_capacity(heap, Reserve::ROOM)?,
+            failures: Vec::with_capacity(heap, Failure::ROOM)?,
+            fines: Vec::with_capacity(heap, Fine::ROOM)?,
         })
     }
 
@@ -71,22 +57,18 @@ impl Book {
         self.fines.clear();
     }
 
-    // Why the record cannot be entered, if so.
+    // Why the record cannot be entered, if so. An Option and no Result: callers ask why not, and nothing is done.
     pub fn record_refusal(&self, item: &Record) -> Option<Refusal>
         ensures { result ≡ record_refusal (held self.now) item.now }
     {
         let heading = &self.heading;
         match item {
-            Record::Price(p) => refusal_after(heading, self.prices.as_slice(), p),
-            Record::Position(p) => refusal_after(heading, self.positions.as_slice(), p),
-            Record::Interconnection(p) => refusal_after(
-                heading,
-                self.interconnections.as_slice(),
-                p,
-            ),
-            Record::Reserve(p) => refusal_after(heading, self.reserves.as_slice(), p),
-            Record::Failure(p) => refusal_after(heading, self.failures.as_slice(), p),
-            Record::Fine(p) => refusal_after(heading, self.fines.as_slice(), p),
+            Record::Price(p) => refusal_after(heading, &self.prices, p),
+            Record::Position(p) => refusal_after(heading, &self.positions, p),
+            Record::Interconnection(p) => refusal_after(heading, &self.interconnections, p),
+            Record::Reserve(p) => refusal_after(heading, &self.reserves, p),
+            Record::Failure(p) => refusal_after(heading, &self.failures, p),
+            Record::Fine(p) => refusal_after(heading, &self.fines, p),
         }
     }
 
@@ -122,13 +104,9 @@ impl Book {
         ensures value { result ≡ answer (decoded_heading bytes.now) }
         ensures after { held self.new ≡ opened (held self.old) (decoded_heading bytes.now) }
     {
-        match decode_heading(bytes) {
-            Ok(heading) => {
-                self.clear(heading);
-                Ok(())
-            }
-            Err(fault) => Err(fault),
-        }
+        let heading = decode_heading(bytes)?;
+        self.clear(heading);
+        Ok(())
     }
 
     // Enters the record that the bytes say, unless there is a reason against it.
@@ -136,9 +114,6 @@ impl Book {
         ensures value { result ≡ answer (admitted (held self.old) bytes.now) }
         ensures after { held self.new ≡ entered (held self.old) (admitted (held self.old) bytes.now) }
     {
-        match decode_record(bytes) {
-            Ok(item) => self.enter_record(item),
-            Err(fault) => Err(fault),
-        }
+        self.enter_record(decode_record(bytes)?)
     }
 }

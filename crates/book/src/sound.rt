@@ -1,26 +1,12 @@
 // Whether a book could have been entered as it stands.
 ghost use Rattle.std.specs.Prelude.{◌≡◌};
 ghost use Rattle.book.specs.Books.{counts_of, held, record_count};
-ghost use Rattle.book.specs.Soundness.{DayTellsHeadingAndCounts, EnteringKeepsSound, OpenedIsSound, SoundIsOfItsDay, SoundWithRecord, records_of_day, same_counts, sound_records};
+ghost use Rattle.book.specs.Soundness.{DayTellsHeadingAndCounts, EnteringKeepsSound, OpenedIsSound, SoundIsOfItsDay, SoundWithRecord, records_of_day, sound_records};
 
 use crate::book::Book;
 use crate::counts::Counts;
-use dayfile::calendar::same_heading;
 use dayfile::heading::Heading;
 use rows::table::are_sound;
-
-impl Counts {
-    fn is_same(&self, other: &Counts) -> bool
-        ensures { result ≡ same_counts self.now other.now }
-    {
-        self.prices == other.prices
-            && self.positions == other.positions
-            && self.interconnections == other.interconnections
-            && self.reserves == other.reserves
-            && self.failures == other.failures
-            && self.fines == other.fines
-    }
-}
 
 impl Book {
     // How many records of each kind there are.
@@ -43,38 +29,38 @@ impl Book {
     {
         let counts = self.counts();
         counts.prices as u128
-            + (counts.positions as u128
-                + (counts.interconnections as u128
-                    + (counts.reserves as u128 + (counts.failures as u128 + counts.fines as u128))))
+            + counts.positions as u128
+            + counts.interconnections as u128
+            + counts.reserves as u128
+            + counts.failures as u128
+            + counts.fines as u128
     }
 
     // Could these records have been entered, kind by kind, in this order?
     pub fn is_sound(&self) -> bool
         ensures { result ≡ sound_records (held self.now) }
     {
-        are_sound(&self.heading, self.prices.as_slice())
-            && are_sound(&self.heading, self.positions.as_slice())
-            && are_sound(&self.heading, self.interconnections.as_slice())
-            && are_sound(&self.heading, self.reserves.as_slice())
-            && are_sound(&self.heading, self.failures.as_slice())
-            && are_sound(&self.heading, self.fines.as_slice())
+        are_sound(&self.heading, &self.prices)
+            && are_sound(&self.heading, &self.positions)
+            && are_sound(&self.heading, &self.interconnections)
+            && are_sound(&self.heading, &self.reserves)
+            && are_sound(&self.heading, &self.failures)
+            && are_sound(&self.heading, &self.fines)
     }
 
     // Is this a sound book with this heading and these counts?
     pub fn is_of_day(&self, heading: &Heading, counts: &Counts) -> bool
         ensures { result ≡ records_of_day heading.now counts.now (held self.now) }
     {
-        same_heading(*heading, self.heading) && counts.is_same(&self.counts()) && self.is_sound()
+        *heading == self.heading && *counts == self.counts() && self.is_sound()
     }
 }
 
 // What keeps a book sound.
-pub fn soundness_stands() -> u8
+pub fn soundness_stands()
     ensures opened { OpenedIsSound }
     ensures entered { EnteringKeepsSound }
     ensures exactly { SoundWithRecord }
     ensures own { SoundIsOfItsDay }
     ensures told { DayTellsHeadingAndCounts }
-{
-    0
-}
+{}

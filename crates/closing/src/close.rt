@@ -13,9 +13,10 @@ use faults::refusal::Refusal;
 fn ends_with(book: &Book, count: u16) -> Result<(), Fault>
     ensures { result ≡ ended (held book.now) count }
 {
-    if count as u128 != 1 + book.record_count() {
+    if u128::from(count) != 1 + book.record_count() {
         return Err(Fault::plain(Refusal::WrongCount));
     }
+    // None is the good answer here, so no `ok_or`.
     match first_unpriced(book) {
         Some(place) => Err(Fault::new(Refusal::NoPrice, place)),
         None => Ok(()),
@@ -26,8 +27,5 @@ fn ends_with(book: &Book, count: u16) -> Result<(), Fault>
 pub fn close(book: &Book, bytes: &[u8]) -> Result<(), Fault>
     ensures { result ≡ closing (held book.now) bytes.now }
 {
-    match decode_end(bytes) {
-        Ok(count) => ends_with(book, count),
-        Err(fault) => Err(fault),
-    }
+    ends_with(book, decode_end(bytes)?)
 }

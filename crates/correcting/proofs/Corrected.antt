@@ -1,5 +1,5 @@
 -- A correction keeps a book sound.
-use Rattle.std.proofs.Common.{◌≡◌, ℕ, Bool, true, false, cond, not, leb, List, length, get_or, is_some, Some, None, Option, refl, ap, arith}
+use Rattle.std.proofs.Common.{◌≡◌, ℕ, Bool, true, false, cond, not, leb, List, length, get_or, is_some, Some, None, Option, refl, ap}
 use Rattle.std.proofs.lemmas.List.{length-set}
 use Rattle.std.proofs.lemmas.Bool.{and_parts, and_from}
 use Rattle.faults.specs.declared.refusal.Refusal.{Refusal}
@@ -20,7 +20,7 @@ use Rattle.correcting.specs.declared.reading.Reading.{Reading}
 ranged_from : (ranged named : Bool) (other : Option Refusal)
     → first_reason (cond (not ranged) (Some OutOfRange) (cond (not named) (Some AboveHeading) None)) other ≡ None → ranged ≡ true
 ranged_from true named o e = refl
-ranged_from false named o e = let z : ◌≡◌ {A = ℕ} 0 1 = cc in absurd (omega arith)
+ranged_from false named o e = cc
 
 energy_from : (reading : Reading) → reading_in_range reading ≡ true → energy_in_range reading.real_time ≡ true
 energy_from reading e =

@@ -12,8 +12,12 @@ use dayfile::record::{Class, Position};
 use faults::fault::{Fault, Place};
 use faults::refusal::Refusal;
 use rows::kinds::is_energy;
-use rows::row::Row;
-use rows::table::find;
+
+fn is_position_of(p: &Position, account: u8, node: u8, hour: u8, class: Class) -> bool
+    ensures { result ≡ is_position_of account node hour class p.now }
+{
+    account == p.account && node == p.node && hour == p.hour && class == p.class
+}
 
 // Where the account's position of the class at the node in the hour stands.
 pub fn find_position(
@@ -26,15 +30,9 @@ pub fn find_position(
     ensures value { result ≡ first_place (is_position_of account node hour class) positions.now }
     ensures within { IfSome result (λ i. i < length positions.now) }
 {
-    let key = Position {
-        account,
-        node,
-        hour,
-        class,
-        day_ahead: 0,
-        real_time: 0,
-    };
-    find(positions, &key)
+    positions
+        .iter()
+        .position(|p| is_position_of(p, account, node, hour, class))
 }
 
 // Where the position stands that the reading is of; none where no class has the reading's number.
@@ -42,30 +40,27 @@ fn find_read(positions: &[Position], reading: Reading) -> Option<usize>
     ensures value { result ≡ read_position positions.now reading }
     ensures within { IfSome result (λ i. i < length positions.now) }
 {
-    match Class::from_number(reading.class) {
-        Some(class) => find_position(
-            positions,
-            reading.account,
-            reading.node,
-            reading.hour,
-            class,
-        ),
-        None => None,
-    }
+    let class = Class::try_from(reading.class).ok()?;
+    find_position(
+        positions,
+        reading.account,
+        reading.node,
+        reading.hour,
+        class,
+    )
 }
 
-// Puts the reading into its position, if there is one, and says whether there was. Every other position stays as it is.
+// Puts the reading into its position, if there is one, and says whether there was: a flag, as nothing else is to be told. Every
+// other position stays as it is.
 pub fn replace_reading(positions: &mut [Position], reading: Reading) -> bool
     ensures value { result ≡ is_some (read_position positions.old reading) }
     ensures after { positions.new ≡ reread_at positions.old (read_position positions.old reading) reading.real_time }
 {
-    match find_read(positions, reading) {
-        Some(i) => {
-            positions[i].real_time = reading.real_time;
-            true
-        }
-        None => false,
-    }
+    let Some(i) = find_read(positions, reading) else {
+        return false;
+    };
+    positions[i].real_time = reading.real_time;
+    true
 }
 
 impl Reading {
@@ -81,7 +76,7 @@ impl Reading {
         self.account >= 1
             && self.node >= 1
             && self.hour >= 1
-            && Class::from_number(self.class).is_some()
+            && Class::try_from(self.class).is_ok()
             && is_energy(self.real_time)
     }
 
@@ -91,17 +86,17 @@ impl Reading {
         self.account <= heading.accounts && self.node <= heading.nodes && self.hour <= heading.hours
     }
 
-    // What the heading alone has against the reading.
+    // What the heading alone has against the reading. An Option and no Result: callers ask why not, and nothing is done.
     pub fn refusal_under(self, heading: &Heading) -> Option<Refusal>
         ensures { result ≡ reading_refusal heading.now self }
     {
         if !self.is_in_range() {
-            return Some(Refusal::OutOfRange);
+            Some(Refusal::OutOfRange)
+        } else if !self.is_listed(heading) {
+            Some(Refusal::AboveHeading)
+        } else {
+            None
         }
-        if !self.is_listed(heading) {
-            return Some(Refusal::AboveHeading);
-        }
-        None
     }
 }
 
@@ -109,14 +104,12 @@ impl Reading {
 pub fn reading_refusal(book: &Book, reading: Reading) -> Option<Refusal>
     ensures { result ≡ correction_refusal (held book.now) reading }
 {
-    if let Some(refusal) = reading.refusal_under(&book.heading) {
-        return Some(refusal);
-    }
-    if find_read(book.positions.as_slice(), reading).is_some() {
-        None
-    } else {
-        Some(Refusal::NoPosition)
-    }
+    reading
+        .refusal_under(&book.heading)
+        .or_else(|| match find_read(&book.positions, reading) {
+            Some(_) => None,
+            None => Some(Refusal::NoPosition),
+        })
 }
 
 // Puts the reading into its position, if there is one.
@@ -139,8 +132,6 @@ pub fn correct(book: &mut Book, reading: Reading) -> Result<(), Fault>
 }
 
 // What a correction keeps.
-pub fn corrections_stand() -> u8
+pub fn corrections_stand()
     ensures corrected { CorrectingKeepsSound }
-{
-    0
-}
+{}

@@ -1,39 +1,21 @@
 -- A search from the front.
-use Rattle.std.proofs.Common.{◌≡◌, ℕ, zero, suc, ◌+◌, ◌<◌, ◌≤◌, Bool, true, false, cond, ltb, List, [], ◌∷◌, length, get_or, take, Some, None, Option, sym, refl, ap, add-one, arith, take_all}
+use Rattle.std.proofs.Common.{◌≡◌, ℕ, suc, ◌+◌, Bool, true, false, cond, not, ltb, List, [], ◌∷◌, length, position, Some, None, Option, refl, ap, ◌∙◌, arith}
 use Rattle.std.specs.Option.{option_map}
-use Rattle.std.proofs.lemmas.Bool.{cond-false, cond-true, le-ltb, lt-ltb}
-use Rattle.rows.specs.Tables.{first_place, place_within}
+use Rattle.std.specs.List.{position_or_len}
+use Rattle.rows.specs.Tables.{first_place}
 
--- past one that does not pass the test, the search goes on
-past : (b : Bool) (o p q : Option ℕ) → cond b (Some 0) (option_map suc o) ≡ None → (o ≡ None → p ≡ q) → cond b (Some 0) (option_map suc p) ≡ option_map suc q
-past true o p q n f = let z : ◌≡◌ {A = ℕ} 0 1 = cc in absurd (omega arith)
-past false None p q n f = ap (option_map suc) (f refl)
-past false (Some k) p q n f = let z : ◌≡◌ {A = ℕ} 0 1 = cc in absurd (omega arith)
+further : (i n : ℕ) → cond {A = Option ℕ} (ltb (1 + i) (suc n)) (Some (1 + i)) None ≡ option_map suc (cond (ltb i n) (Some i) None)
+further i n = grind arith
 
--- none of the first i passes, and the one at i does: it is the first
-pub place_found : {X : Type 0} (t : X → Bool) (xs : List X) (i : ℕ) (d : X)
-    → i < length xs → first_place t (take i xs) ≡ None → t (get_or xs i d) ≡ true → first_place t xs ≡ Some i
-place_found t [] i d h n y = absurd (omega arith)
-place_found t (x ∷ xs) zero d h n y = rw y refl
-place_found t (x ∷ xs) (suc i) d h n y =
-    past (t x) (first_place t (take i xs)) (first_place t xs) (Some i) n (λ m. place_found t xs i d (omega arith) m y)
+here : (n : ℕ) → cond {A = Option ℕ} (ltb 0 (suc n)) (Some 0) None ≡ Some 0
+here n = grind arith
 
-none_suc : {X : Type 0} (t : X → Bool) (xs : List X) (i : ℕ) (d : X)
-    → i < length xs → first_place t (take i xs) ≡ None → t (get_or xs i d) ≡ false → first_place t (take (suc i) xs) ≡ None
-none_suc t [] i d h n y = absurd (omega arith)
-none_suc t (x ∷ xs) zero d h n y = rw y refl
-none_suc t (x ∷ xs) (suc i) d h n y =
-    past (t x) (first_place t (take i xs)) (first_place t (take (suc i) xs)) None n (λ m. none_suc t xs i d (omega arith) m y)
+step : (b : Bool) (i n : ℕ) (o : Option ℕ) → cond (ltb i n) (Some i) None ≡ o
+    → cond {A = Option ℕ} (ltb (cond (not b) (1 + i) 0) (suc n)) (Some (cond (not b) (1 + i) 0)) None ≡ cond b (Some 0) (option_map suc o)
+step true i n o e = here n
+step false i n o e = further i n ∙ ap (option_map suc) e
 
-pub place_none_more : {X : Type 0} (t : X → Bool) (xs : List X) (i : ℕ) (d : X)
-    → i < length xs → first_place t (take i xs) ≡ None → t (get_or xs i d) ≡ false → first_place t (take (i + 1) xs) ≡ None
-place_none_more t xs i d h n y = rw add-one (none_suc t xs i d h n y)
-
-pub place_none_all : {X : Type 0} (t : X → Bool) (xs : List X) (i : ℕ) → length xs ≤ i → first_place t (take i xs) ≡ None → first_place t xs ≡ None
-place_none_all t xs i h n = rw (take_all i xs h) at n
-
-pub within_here : (i n : ℕ) → i < n → Some i ≡ place_within i n
-within_here i n h = sym (cond-true (ltb i n) (Some i) None (lt-ltb i n h))
-
-pub within_end : (n : ℕ) → None ≡ place_within n n
-within_end n = sym (cond-false (ltb n n) (Some n) None (le-ltb n n (omega arith)))
+-- the first place that the library's search gives
+pub first_place_is : {X : Type 0} (t : X → Bool) (xs : List X) → position t xs ≡ first_place t xs
+first_place_is t [] = refl
+first_place_is t (x ∷ xs) = step (t x) (position_or_len t xs) (length xs) (first_place t xs) (first_place_is t xs)

@@ -1,58 +1,41 @@
 -- A walk along a table, record after record.
-use Rattle.std.proofs.Common.{◌≡◌, ℕ, ◌+◌, ◌<◌, ◌≤◌, Bool, true, false, cond, not, ◌&&◌, leb, List, [], ◌∷◌, ◌++◌, length, get_or, take, drop, is_some, Some, None, Option, sym, refl, ap, ◌∙◌, append_assoc, append-nil, arith}
+use Rattle.std.proofs.Common.{◌≡◌, ℕ, ◌+◌, ◌<◌, ◌≤◌, Bool, true, false, cond, not, ◌&&◌, leb, List, [], ◌∷◌, ◌++◌, length, take, is_some, Some, None, Option, sym, refl, ap, ◌∙◌, append_assoc, append-nil, arith}
+use Rattle.std.proofs.Math.Bool.{and-true, and_assoc}
 use Rattle.std.proofs.lemmas.Bool.{leb-false}
 use Rattle.faults.specs.declared.refusal.Refusal.{Refusal}
 use Rattle.faults.specs.declared.refusal.Refusal.TheVariants.{OutOfRange, AboveHeading, KeyTaken, TableFull}
-use Rattle.std.proofs.lemmas.List.{take_more, drop_more, drop_all}
+use Rattle.std.proofs.lemmas.Grind.{common_steps}
+use Rattle.std.proofs.lemmas.List.{length_push}
+use Rattle.std.specs.List.{enumerate_from, list_all}
 use Rattle.dayfile.specs.declared.heading.Heading.{Heading}
-use Rattle.rows.specs.Tables.{Terms, first_place, row_refusal, taken_after}
+use Rattle.rows.specs.Tables.{Terms, first_place, row_refusal, sound_table, taken_after}
 
--- is the record refused after these?
-refused : {X : Type 0} → Terms X → Heading → List X → X → Bool
-refused t h xs x = is_some (row_refusal t h xs x)
+-- the record at this place is taken after those before it
+abbrev pub taken_at : {X : Type 0} → Terms X → Heading → List X → ℕ × X → Bool
+taken_at t h xs p = not (is_some (row_refusal t h (take p.0 xs) p.1))
 
-step : {X : Type 0} (t : Terms X) (h : Heading) (xs : List X) (i : ℕ) (d : X) → i < length xs
-    → taken_after t h (take i xs) (drop i xs) ≡ (not (refused t h (take i xs) (get_or xs i d)) && taken_after t h (take (i + 1) xs) (drop (i + 1) xs))
-unfolding refused
-step t h xs i d l =
-    ap (taken_after t h (take i xs)) (drop_more xs i d l)
-    ∙ ap (λ b. not (is_some (row_refusal t h (take i xs) (get_or xs i d))) && taken_after t h b (drop (i + 1) xs)) (sym (take_more xs i d l))
+-- the walk from `before` on, record after record
+taken_along : {X : Type 0} (t : Terms X) (h : Heading) (whole before xs : List X) (n : ℕ) → whole ≡ before ++ xs → n ≡ length before
+    → list_all (taken_at t h whole) (enumerate_from n xs) ≡ taken_after t h before xs
+taken_along t h whole before [] n e l = refl
+taken_along {X} t h whole before (x ∷ xs) n e l =
+    let on : List X → Bool = λ b. not (is_some (row_refusal t h b x)) && list_all (taken_at t h whole) (enumerate_from (n + 1) xs) in
+    let gone : take n whole ≡ before = grind (arith, common_steps, e, l) in
+    let more : n + 1 ≡ length (before ++ x ∷ []) = omega (arith, l, length_push before x) in
+    ap on gone
+    ∙ ap (λ b. not (is_some (row_refusal t h before x)) && b) (taken_along t h whole (before ++ x ∷ []) xs (n + 1) (e ∙ sym (append_assoc before (x ∷ []) xs)) more)
 
--- j is how the code writes i
-pub taken_stops : {X : Type 0} (t : Terms X) (h : Heading) (xs : List X) (i j : ℕ) (d : X) → j ≡ i → i < length xs
-    → is_some (row_refusal t h (take j xs) (get_or xs i d)) ≡ true → taken_after t h (take i xs) (drop i xs) ≡ false
-unfolding refused
-taken_stops t h xs i j d e l b =
-    let b' : refused t h (take i xs) (get_or xs i d) ≡ true = ap (λ n. refused t h (take n xs) (get_or xs i d)) (sym e) ∙ b in
-    step t h xs i d l ∙ ap (λ x. not x && taken_after t h (take (i + 1) xs) (drop (i + 1) xs)) b'
-
-pub taken_more : {X : Type 0} (t : Terms X) (h : Heading) (xs : List X) (i j : ℕ) (d : X) → j ≡ i → i < length xs
-    → is_some (row_refusal t h (take j xs) (get_or xs i d)) ≡ false
-    → taken_after t h (take i xs) (drop i xs) ≡ taken_after t h (take (i + 1) xs) (drop (i + 1) xs)
-unfolding refused
-taken_more t h xs i j d e l b =
-    let b' : refused t h (take i xs) (get_or xs i d) ≡ false = ap (λ n. refused t h (take n xs) (get_or xs i d)) (sym e) ∙ b in
-    step t h xs i d l ∙ ap (λ x. not x && taken_after t h (take (i + 1) xs) (drop (i + 1) xs)) b'
-
-pub taken_all : {X : Type 0} (t : Terms X) (h : Heading) (xs : List X) (i : ℕ) → length xs ≤ i → taken_after t h (take i xs) (drop i xs) ≡ true
-taken_all t h xs i l = ap (taken_after t h (take i xs)) (drop_all i xs l)
-
-and_true : (b : Bool) → (b && true) ≡ b
-and_true true = refl
-and_true false = refl
-
-and_three : (a b c : Bool) → (a && (b && c)) ≡ ((a && b) && c)
-and_three true b c = refl
-and_three false b c = refl
+pub taken_all : {X : Type 0} (t : Terms X) (h : Heading) (xs : List X) → list_all (taken_at t h xs) (enumerate_from 0 xs) ≡ sound_table t h xs
+taken_all t h xs = taken_along t h xs [] xs 0 refl refl
 
 -- one more record at the end
 pub taken_push : {X : Type 0} (t : Terms X) (h : Heading) (before xs : List X) (x : X)
     → taken_after t h before (xs ++ x ∷ []) ≡ (taken_after t h before xs && not (is_some (row_refusal t h (before ++ xs) x)))
 taken_push t h before [] x =
-    and_true (not (is_some (row_refusal t h before x))) ∙ ap (λ b. not (is_some (row_refusal t h b x))) (sym (append-nil before))
+    and-true (not (is_some (row_refusal t h before x))) ∙ ap (λ b. not (is_some (row_refusal t h b x))) (sym (append-nil before))
 taken_push t h before (y ∷ xs) x =
     ap (λ b. not (is_some (row_refusal t h before y)) && b) (taken_push t h (before ++ y ∷ []) xs x)
-    ∙ and_three (not (is_some (row_refusal t h before y))) (taken_after t h (before ++ y ∷ []) xs) (not (is_some (row_refusal t h ((before ++ y ∷ []) ++ xs) x)))
+    ∙ sym (and_assoc (not (is_some (row_refusal t h before y))) (taken_after t h (before ++ y ∷ []) xs) (not (is_some (row_refusal t h ((before ++ y ∷ []) ++ xs) x))))
     ∙ ap (λ b. (not (is_some (row_refusal t h before y)) && taken_after t h (before ++ y ∷ []) xs) && not (is_some (row_refusal t h b x))) (append_assoc before (y ∷ []) xs)
 
 -- the four tests of a record
@@ -61,10 +44,10 @@ tested ranged named keyed full =
     cond (not ranged) (Some OutOfRange) (cond (not named) (Some AboveHeading) (cond keyed (Some KeyTaken) (cond full (Some TableFull) None)))
 
 free_room : (ranged named keyed full : Bool) → tested ranged named keyed full ≡ None → full ≡ false
-free_room false named keyed full e = let z : ◌≡◌ {A = ℕ} 0 1 = cc in absurd (omega arith)
-free_room true false keyed full e = let z : ◌≡◌ {A = ℕ} 0 1 = cc in absurd (omega arith)
-free_room true true true full e = let z : ◌≡◌ {A = ℕ} 0 1 = cc in absurd (omega arith)
-free_room true true false true e = let z : ◌≡◌ {A = ℕ} 0 1 = cc in absurd (omega arith)
+free_room false named keyed full e = cc
+free_room true false keyed full e = cc
+free_room true true true full e = cc
+free_room true true false true e = cc
 free_room true true false false e = refl
 
 -- a record that is not refused finds room: n is the length of the table, and cap what there is memory for

@@ -1,5 +1,5 @@
 -- A table of a book: records of one kind, in the order in which they came.
-use Rattle.std.specs.Prelude.{ℕ, suc, Bool, true, cond, not, ◌&&◌, List, [], ◌∷◌, ◌++◌, length, is_some, Some, None, Option, nat_le, nat_lt}
+use Rattle.std.specs.Prelude.{ℕ, suc, Bool, true, cond, not, ◌&&◌, List, [], ◌∷◌, ◌++◌, length, is_some, Some, None, Option, nat_le}
 use Rattle.std.specs.Option.{option_map}
 use Rattle.faults.specs.declared.refusal.Refusal.{Refusal}
 use Rattle.faults.specs.declared.refusal.Refusal.TheVariants.{OutOfRange, AboveHeading, KeyTaken, TableFull}
@@ -20,10 +20,6 @@ pub record Terms (X : Type 0) : Type 0 where
 abbrev pub first_place : {X : Type 0} → (X → Bool) → List X → Option ℕ
 first_place test [] = None
 first_place test (x ∷ xs) = cond (test x) (Some 0) (option_map suc (first_place test xs))
-
--- a place in a list of this length, or none past its end
-abbrev pub place_within : ℕ → ℕ → Option ℕ
-place_within i n = cond (nat_lt i n) (Some i) None
 
 -- why a record cannot follow these, if so: the first of the four reasons, in this order
 abbrev pub row_refusal : {X : Type 0} → Terms X → Heading → List X → X → Option Refusal

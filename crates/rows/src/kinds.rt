@@ -1,23 +1,10 @@
 // The six kinds of record as rows of a table.
-ghost use Rattle.std.specs.Prelude.{◌≡◌};
-ghost use Rattle.rows.specs.Kinds.{energy_in_range, failure_terms, fine_in_range, fine_terms, interconnection_terms, kind_in_range, position_terms, price_in_range, price_terms, reserve_price_in_range, reserve_terms, unit_in_range};
+ghost use Rattle.std.specs.Prelude.{◌≡◌, refl};
+ghost use Rattle.rows.specs.Kinds.{energy_in_range, failure_room, failure_terms, fine_in_range, fine_room, fine_terms, interconnection_room, interconnection_terms, kind_in_range, position_room, position_terms, price_in_range, price_room, price_terms, reserve_price_in_range, reserve_room, reserve_terms, unit_in_range};
 
 use crate::row::Row;
 use dayfile::heading::Heading;
 use dayfile::record::{Failure, Fine, Interconnection, Position, Price, Reserve};
-
-// How many records of each kind a book holds at most.
-pub const PRICE_ROOM: usize = 400;
-
-pub const POSITION_ROOM: usize = 1000;
-
-pub const INTERCONNECTION_ROOM: usize = 200;
-
-pub const RESERVE_ROOM: usize = 400;
-
-pub const FAILURE_ROOM: usize = 320;
-
-pub const FINE_ROOM: usize = 50;
 
 // The largest quantity of energy in a record, in kWh.
 pub const ENERGY_LIMIT: u32 = 2_000_000;
@@ -38,7 +25,7 @@ pub fn is_energy(kwh: u32) -> bool
 fn is_price(price: i32) -> bool
     ensures { result ≡ price_in_range price }
 {
-    price >= -PRICE_LIMIT && price <= PRICE_LIMIT
+    (-PRICE_LIMIT..=PRICE_LIMIT).contains(&price)
 }
 
 fn is_reserve_price(price: u32) -> bool
@@ -50,23 +37,29 @@ fn is_reserve_price(price: u32) -> bool
 fn is_fine(centavos: u64) -> bool
     ensures { result ≡ fine_in_range centavos }
 {
-    centavos >= 1 && centavos <= FINE_LIMIT
+    (1..=FINE_LIMIT).contains(&centavos)
 }
 
 fn is_unit(unit: u8) -> bool
     ensures { result ≡ unit_in_range unit }
 {
-    unit >= 1 && unit <= 64
+    (1..=64).contains(&unit)
 }
 
 fn is_kind(kind: u8) -> bool
     ensures { result ≡ kind_in_range kind }
 {
-    kind >= 1 && kind <= 5
+    (1..=5).contains(&kind)
 }
 
 impl Row for Price {
     ghost terms = { price_terms };
+
+    ghost ROOM = { price_room };
+
+    ghost room_is = { refl };
+
+    const ROOM: usize = 400;
 
     fn is_alike(&self, other: &Price) -> bool {
         self.node == other.node && self.hour == other.hour
@@ -79,20 +72,22 @@ impl Row for Price {
     fn is_listed(&self, heading: &Heading) -> bool {
         self.node <= heading.nodes && self.hour <= heading.hours
     }
-
-    fn room() -> usize {
-        PRICE_ROOM
-    }
 }
 
 impl Row for Position {
     ghost terms = { position_terms };
 
+    ghost ROOM = { position_room };
+
+    ghost room_is = { refl };
+
+    const ROOM: usize = 1000;
+
     fn is_alike(&self, other: &Position) -> bool {
         self.account == other.account
             && self.node == other.node
             && self.hour == other.hour
-            && self.class.number() == other.class.number()
+            && self.class == other.class
     }
 
     fn is_in_range(&self) -> bool {
@@ -106,14 +101,16 @@ impl Row for Position {
     fn is_listed(&self, heading: &Heading) -> bool {
         self.account <= heading.accounts && self.node <= heading.nodes && self.hour <= heading.hours
     }
-
-    fn room() -> usize {
-        POSITION_ROOM
-    }
 }
 
 impl Row for Interconnection {
     ghost terms = { interconnection_terms };
+
+    ghost ROOM = { interconnection_room };
+
+    ghost room_is = { refl };
+
+    const ROOM: usize = 200;
 
     fn is_alike(&self, other: &Interconnection) -> bool {
         self.interconnection == other.interconnection && self.hour == other.hour
@@ -121,8 +118,7 @@ impl Row for Interconnection {
 
     fn is_in_range(&self) -> bool {
         self.interconnection >= 1
-            && self.system >= 1
-            && self.system <= 4
+            && (1..=4).contains(&self.system)
             && self.node >= 1
             && self.hour >= 1
             && is_energy(self.day_ahead_export)
@@ -137,14 +133,16 @@ impl Row for Interconnection {
             && self.node <= heading.nodes
             && self.hour <= heading.hours
     }
-
-    fn room() -> usize {
-        INTERCONNECTION_ROOM
-    }
 }
 
 impl Row for Reserve {
     ghost terms = { reserve_terms };
+
+    ghost ROOM = { reserve_room };
+
+    ghost room_is = { refl };
+
+    const ROOM: usize = 400;
 
     fn is_alike(&self, other: &Reserve) -> bool {
         self.account == other.account
@@ -167,14 +165,16 @@ impl Row for Reserve {
     fn is_listed(&self, heading: &Heading) -> bool {
         self.account <= heading.accounts && self.hour <= heading.hours
     }
-
-    fn room() -> usize {
-        RESERVE_ROOM
-    }
 }
 
 impl Row for Failure {
     ghost terms = { failure_terms };
+
+    ghost ROOM = { failure_room };
+
+    ghost room_is = { refl };
+
+    const ROOM: usize = 320;
 
     fn is_alike(&self, other: &Failure) -> bool {
         self.unit == other.unit && self.kind == other.kind
@@ -188,14 +188,16 @@ impl Row for Failure {
     fn is_listed(&self, _heading: &Heading) -> bool {
         true
     }
-
-    fn room() -> usize {
-        FAILURE_ROOM
-    }
 }
 
 impl Row for Fine {
     ghost terms = { fine_terms };
+
+    ghost ROOM = { fine_room };
+
+    ghost room_is = { refl };
+
+    const ROOM: usize = 50;
 
     fn is_alike(&self, other: &Fine) -> bool {
         self.identifier == other.identifier
@@ -207,9 +209,5 @@ impl Row for Fine {
 
     fn is_listed(&self, heading: &Heading) -> bool {
         self.account <= heading.accounts
-    }
-
-    fn room() -> usize {
-        FINE_ROOM
     }
 }

@@ -1,5 +1,5 @@
 // What a table asks of its records.
-ghost use Rattle.std.specs.Prelude.{◌≡◌};
+ghost use Rattle.std.specs.Prelude.{◌≡◌, ℕ};
 ghost use Rattle.rows.specs.Tables.{Terms};
 
 use dayfile::heading::Heading;
@@ -9,7 +9,12 @@ pub trait Row {
     // Key, ranges, what the heading must list, and room.
     ghost terms: { Terms Self };
 
-    // Do the two have one key?
+    ghost ROOM: { ℕ };
+
+    // How many records of the kind a book holds at most.
+    const ROOM: usize;
+
+    // Do the two have one key? They may differ in the rest, so that this is no `==`.
     fn is_alike(&self, other: &Self) -> bool
         ensures { result ≡ terms.alike self.now other.now };
 
@@ -21,7 +26,6 @@ pub trait Row {
     fn is_listed(&self, heading: &Heading) -> bool
         ensures { result ≡ terms.listed heading.now self.now };
 
-    // How many records of the kind a book holds at most.
-    fn room() -> usize
-        ensures { result ≡ terms.room };
+    // It is the room of the terms.
+    ghost room_is: { ROOM ≡ terms.room };
 }

@@ -1,66 +1,56 @@
 // Tables of records: finding, entering, and whether a table could have been entered as it stands.
-ghost use Rattle.std.specs.Prelude.{◌≡◌, ◌<◌, length, IfSome, ◌==◌};
-ghost use Rattle.rows.specs.Tables.{first_place, place_within, row_refusal, sound_table};
+ghost use Rattle.std.specs.Prelude.{◌≡◌, ◌<◌, not, length, position, is_some, IfSome};
+ghost use Rattle.rows.specs.Tables.{first_place, row_refusal, sound_table};
 
 use crate::row::Row;
 use dayfile::heading::Heading;
 use faults::refusal::Refusal;
 
-// How many records stand before the first that has the key of `row`: all of them where none has it.
-fn count_unlike<T: Row>(rows: &[T], row: &T) -> usize
-    ensures { first_place (T.terms.alike row.now) rows.now ≡ place_within result (length rows.now) }
+// The place that `find` gives, in the word that the library has for it.
+fn position_of<T: Row>(rows: &[T], row: &T) -> Option<usize>
+    ensures { result ≡ position (T.terms.alike row.now) rows.now }
 {
-    for (i, other) in rows.iter().enumerate() {
-        if row.is_alike(other) {
-            return i;
-        }
-    }
-    rows.len()
+    rows.iter().position(|other| row.is_alike(other))
 }
 
 // Where the first record with the key of `row` stands.
+#[tactic(auto, using(crate::proofs::Places::first_place_is))]
 pub fn find<T: Row>(rows: &[T], row: &T) -> Option<usize>
     ensures value { result ≡ first_place (T.terms.alike row.now) rows.now }
     ensures within { IfSome result (λ i. i < length rows.now) }
 {
-    let i = count_unlike(rows, row);
-    if i < rows.len() { Some(i) } else { None }
+    position_of(rows, row)
 }
 
-// Why `row` cannot follow `rows`, if so.
+// Why `row` cannot follow `rows`, if so. An Option and no Result: callers ask why not, and nothing is done.
 pub fn refusal_after<T: Row>(heading: &Heading, rows: &[T], row: &T) -> Option<Refusal>
     ensures { result ≡ row_refusal T.terms heading.now rows.now row.now }
 {
     if !row.is_in_range() {
-        return Some(Refusal::OutOfRange);
+        Some(Refusal::OutOfRange)
+    } else if !row.is_listed(heading) {
+        Some(Refusal::AboveHeading)
+    } else if find(rows, row).is_some() {
+        Some(Refusal::KeyTaken)
+    } else if rows.len() >= T::ROOM {
+        Some(Refusal::TableFull)
+    } else {
+        None
     }
-    if !row.is_listed(heading) {
-        return Some(Refusal::AboveHeading);
-    }
-    if find(rows, row).is_some() {
-        return Some(Refusal::KeyTaken);
-    }
-    if rows.len() >= T::room() {
-        return Some(Refusal::TableFull);
-    }
-    None
 }
 
-// How many records from the front an empty table would have taken, before the first that it would have refused.
-fn count_taken<T: Row>(heading: &Heading, rows: &[T]) -> usize
-    ensures { sound_table T.terms heading.now rows.now ≡ (result == length rows.now) }
+// Can `row` follow those before it?
+fn can_follow<T: Row>(heading: &Heading, before: &[T], row: &T) -> bool
+    ensures { result ≡ not (is_some (row_refusal T.terms heading.now before.now row.now)) }
 {
-    for (i, row) in rows.iter().enumerate() {
-        if refusal_after(heading, &rows[0..i], row).is_some() {
-            return i;
-        }
-    }
-    rows.len()
+    refusal_after(heading, before, row).is_none()
 }
 
 // Would an empty table have taken each of these, in this order?
 pub fn are_sound<T: Row>(heading: &Heading, rows: &[T]) -> bool
     ensures { result ≡ sound_table T.terms heading.now rows.now }
 {
-    count_taken(heading, rows) == rows.len()
+    rows.iter()
+        .enumerate()
+        .all(|(i, row)| can_follow(heading, &rows[..i], row))
 }

@@ -1,0 +1,12 @@
+use Rattle.std.proofs.Common.{rules, tests, ◌∙◌}
+use Rattle.std.proofs.lemmas.Iterator.{YieldsList-from_slice}
+use Rattle.std.proofs.lemmas.Iterator.Search.{position_from_yields_List}
+use Rattle.rows.proofs.Places.{first_place_is}
+use Rattle.closing.specs.Prices.{is_price_of}
+use Rattle.closing.proofs.prices.find_price.Goals as goal
+
+pub returns-clause-value : goal.returns-clause-value
+returns-clause-value c =
+    let t = is_price_of c.args.node c.args.hour in
+    position_from_yields_List t _ _ _ c.position.ensures.ran (YieldsList-from_slice c.args.prices.now cc) (λ x b q k. search (rules, tests))
+    ∙ first_place_is t c.args.prices.now
