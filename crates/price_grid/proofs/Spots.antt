@@ -1,17 +1,10 @@
 -- Prices put at their spots, and found by their places.
-use Rattle.std.proofs.Common.{◌≡◌, ℕ, suc, Bool, true, false, cond, List, [], ◌∷◌, get_or, replicate, Some, None, Option, refl, ap, ◌∙◌, ⊎_elim}
+use Rattle.std.proofs.Common.{◌≡◌, ℕ, suc, Bool, true, false, cond, List, [], ◌∷◌, get_or, replicate, Some, None, Option, refl, ⊎_elim}
 use Rattle.std.specs.Option.{option_map}
 use Rattle.std.proofs.lemmas.List.{get_or-replicate, get_or_past, length-replicate}
 use Rattle.std.proofs.lemmas.Bool.{cases_lt}
-use Rattle.dayfile.specs.declared.record.Price.{Price}
 use Rattle.rows.specs.Tables.{first_place}
-use Rattle.closing.specs.Prices.{is_price_of}
 use Rattle.price_grid.specs.Found.{first_of}
-use Rattle.price_grid.specs.Grid.{Indexes, PutPrice}
-
--- a price put before the others is the first
-pub indexes_more : (before after : List (Option Price)) (p : Price) (ps : List Price) → PutPrice before p after → Indexes before ps → Indexes after (p ∷ ps)
-indexes_more before after p ps put has node hour j = put node hour j ∙ ap (cond (is_price_of node hour p) (Some p)) (has node hour j)
 
 pub none_in : {X : Type 0} (n k : ℕ) → get_or {A = Option X} (replicate n None) k None ≡ None
 none_in n k = ⊎_elim (λ h. get_or-replicate n k None None h) (λ h. get_or_past (replicate n None) k None (simp length-replicate h)) (cases_lt k n)

@@ -1,7 +1,7 @@
 // The prices of a day by node and hour, so that a price is found in one step.
-ghost use Rattle.std.specs.Prelude.{◌≡◌, ℕ, ◌<◌, ◌≤◌, [], length, None, slice_index_or};
+ghost use Rattle.std.specs.Prelude.{◌≡◌, ◌<◌, if◌then◌else◌, Some, None, IfSome};
 ghost use Rattle.dayfile.specs.declared.record.Price.{Price};
-ghost use Rattle.price_grid.specs.Grid.{Indexes, PutPrice, Spot, is_spot, spot_place};
+ghost use Rattle.price_grid.specs.Grid.{Indexes, PutPrice, is_spot, spot_place};
 ghost use Rattle.price_grid.specs.Found.{price_at};
 
 use closing::prices::find_price;
@@ -9,45 +9,36 @@ use dayfile::record::Price;
 
 const SPOTS: usize = 400;
 
-// Is this a node and an hour that a day can have?
-fn is_spot(node: u8, hour: u8) -> bool
-    ensures { result ≡ is_spot node hour }
+// Where the price of a node in an hour stands, if a day can have them. Node and hour and no pair of the two: they come apart
+// from records and calls, and a pair would be made for this step alone.
+fn place_of(node: u8, hour: u8) -> Option<usize>
+    ensures value { result ≡ (if is_spot node hour then Some (spot_place node hour) else None) }
+    ensures below { IfSome result (λ place. place < 400) }
 {
-    node >= 1 && node <= 16 && hour >= 1 && hour <= 25
+    if matches!(node, 1..=16) && matches!(hour, 1..=25) {
+        Some(usize::from(node) * 25 + usize::from(hour) - 26)
+    } else {
+        None
+    }
 }
 
-fn spot_place(node: u8, hour: u8) -> usize
-    requires { Spot node hour }
-    ensures value { result ≡ spot_place node hour }
-    ensures below { result < 400 }
-{
-    node as usize * 25 + hour as usize - 26
-}
-
-fn no_prices<const N: usize>() -> [Option<Price>; N]
-    ensures { (k : ℕ) → slice_index_or result k None ≡ None }
-{
-    [None; N]
-}
-
-fn put_price(spots: &mut [Option<Price>], p: Price)
-    requires { length spots.old ≡ 400 }
+fn put_price(spots: &mut [Option<Price>; SPOTS], p: Price)
     ensures { PutPrice spots.old p spots.new }
 {
-    if is_spot(p.node, p.hour) {
-        spots[spot_place(p.node, p.hour)] = Some(p);
+    if let Some(place) = place_of(p.node, p.hour) {
+        spots[place] = Some(p);
     }
 }
 
-// Puts each price at its node and hour; of two for one spot the first stays.
-fn index_prices(prices: &[Price], spots: &mut [Option<Price>])
-    requires size { length spots.old ≡ 400 }
-    requires clear { Indexes spots.old [] }
-    ensures { Indexes spots.new prices.now }
+// Each price at its node and hour; of two for one spot the first stays.
+fn index_prices(prices: &[Price]) -> [Option<Price>; SPOTS]
+    ensures { Indexes result prices.now }
 {
-    for i in (0..prices.len()).rev() {
-        put_price(spots, prices[i]);
+    let mut spots = [None; SPOTS];
+    for p in prices.iter().rev() {
+        put_price(&mut spots, *p);
     }
+    spots
 }
 
 // The prices, and the one that stands at each node and hour.
@@ -58,33 +49,30 @@ pub struct PriceGrid<'a> {
     ghost right: { Indexes spots prices.now },
 }
 
-// The price of a node in an hour by search.
+// The price of a node in an hour by search. `find_price` answers a place, as callers of closing want it.
 fn search_price(prices: &[Price], node: u8, hour: u8) -> Option<Price>
     ensures { result ≡ price_at prices.now node hour }
 {
-    match find_price(prices, node, hour) {
-        Some(i) => Some(prices[i]),
-        None => None,
-    }
+    find_price(prices, node, hour).map(|i| prices[i])
 }
 
 impl<'a> PriceGrid<'a> {
     pub fn of(prices: &'a [Price]) -> PriceGrid<'a>
         ensures { result.prices.now ≡ prices.now }
     {
-        let mut spots = no_prices();
-        index_prices(prices, &mut spots);
-        PriceGrid { prices, spots }
+        PriceGrid {
+            prices,
+            spots: index_prices(prices),
+        }
     }
 
     // The price of a node in an hour.
     pub fn price_at(&self, node: u8, hour: u8) -> Option<Price>
         ensures { result ≡ price_at self.now.prices.now node hour }
     {
-        if is_spot(node, hour) {
-            self.spots[spot_place(node, hour)]
-        } else {
-            search_price(self.prices, node, hour)
+        match place_of(node, hour) {
+            Some(place) => self.spots[place],
+            None => search_price(self.prices, node, hour),
         }
     }
 }

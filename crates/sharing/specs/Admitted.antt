@@ -1,12 +1,9 @@
 -- What it takes for an amount to be shared, as facts, and the parts of nothing.
-use Rattle.std.specs.Prelude.{◌≡◌, ℕ, zero, suc, ◌<◌, ◌≤◌, Bool, true, false, cond, ◌&&◌, ◌||◌, ltb, List, length, Ok, Err, sum, ◌==◌, nat_eq, nat_le, nat_lt, slice_index, refl}
-use Rattle.std.proofs.Common.{⊎_elim, sym, ap, ◌∙◌, arith}
-use Rattle.std.proofs.lemmas.List.{ext_get_or}
+use Rattle.std.specs.Prelude.{◌≡◌, ℕ, zero, suc, ◌<◌, ◌≤◌, Bool, true, false, cond, ◌&&◌, ◌||◌, ltb, List, length, Ok, Err, sum, ◌==◌, nat_eq, nat_le, nat_lt, refl}
+use Rattle.std.proofs.Common.{⊎_elim, arith}
 use Rattle.std.proofs.lemmas.Bool.{and_from, and_parts, eq-eqb, eqb-true, le-leb, leb-true, lt-ltb, ltb-true, or_cases, or_left, or_right}
-use Rattle.faults.specs.declared.fault.Fault.{Fault}
-use Rattle.sharing.specs.Fair.{Fair}
 use Rattle.sharing.specs.Limits.{most_amount, most_places, most_weight}
-use Rattle.sharing.specs.Shareable.{admitted, not_shareable, share_answer, share_leaves, shareable, total_answer}
+use Rattle.sharing.specs.Shareable.{admitted, shareable}
 
 pub record Facts (amount : ℕ) (weights : List ℕ) : Type 0 where
   pub some : 1 ≤ length weights
@@ -51,30 +48,7 @@ admitted_parts amount weights places s =
     let p = and_parts (places == length weights) (shareable amount weights) s in
     (eqb-true places (length weights) p.0, p.1)
 
--- with no weight, zeros are the parts under any fair rule
-pub zero_parts : (parts : ℕ → List ℕ → List ℕ) → Fair parts → (amount : ℕ) (weights : List ℕ) → shareable amount weights ≡ true → sum weights ≡ 0
-    → (xs : List ℕ) → length xs ≡ length weights → ((k : ℕ) → k < length xs → slice_index xs k ≡ 0) → xs ≡ parts amount weights
-zero_parts parts fair amount weights s z xs n f =
-    ext_get_or 0 xs (parts amount weights) (n ∙ sym (fair.long amount weights s))
-    (λ k h. f k h ∙ sym (fair.zeros amount weights s z k (omega arith)))
-
 -- an answer by a test says how the test came out
 pub ok_of : {A E : Type 0} (b : Bool) (x y : A) (f : E) → Ok y ≡ cond b (Ok x) (Err f) → (b ≡ true) × (y ≡ x)
 ok_of true x y f e = (refl, cc)
 ok_of false x y f e = let z : ◌≡◌ {A = ℕ} 0 1 = cc in absurd (omega arith)
-
-pub err_of : {A E : Type 0} (b : Bool) (x : A) (f g : E) → Err g ≡ cond b (Ok x) (Err f) → (b ≡ false) × (g ≡ f)
-err_of true x f g e = let z : ◌≡◌ {A = ℕ} 0 1 = cc in absurd (omega arith)
-err_of false x f g e = (refl, cc)
-
--- a call of a rule that is admitted answers so, and leaves the parts
-pub answers : (parts : ℕ → List ℕ → List ℕ) (amount : ℕ) (weights before after : List ℕ) → admitted amount weights (length before) ≡ true → after ≡ parts amount weights
-    → (Ok tt ≡ share_answer amount weights (length before)) × (after ≡ share_leaves parts amount weights before)
-answers parts amount weights before after s e = (rw s refl, rw s e)
-
--- one that is not refuses, and leaves the list
-pub refuses : (parts : ℕ → List ℕ → List ℕ) (amount : ℕ) (weights before : List ℕ) (f : Fault) → Err f ≡ total_answer amount weights (length before)
-    → (Err f ≡ share_answer amount weights (length before)) × (before ≡ share_leaves parts amount weights before)
-refuses parts amount weights before f e =
-    let p = err_of (admitted amount weights (length before)) (sum weights) not_shareable f e in
-    (rw p.0 (ap Err p.1), rw p.0 refl)

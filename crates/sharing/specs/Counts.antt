@@ -15,9 +15,6 @@ pub count_weaker : (n : ℕ) (p q : ℕ → Bool) → ((k : ℕ) → k < n → p
 count_weaker zero p q f = omega arith
 count_weaker (suc n) p q f = omega (arith, count_weaker n p q (λ k h. f k (omega arith)), bit_mono (p n) (q n) (f n (omega arith)))
 
-pub count_more : (n : ℕ) (p : ℕ → Bool) → count (n + 1) p ≡ count n p + cond (p n) 1 0
-count_more n p = rw add-one
-
 pub count_all : (n : ℕ) → count n (λ _. true) ≡ n
 count_all zero = refl
 count_all (suc n) = omega (arith, count_all n)

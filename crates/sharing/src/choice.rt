@@ -1,5 +1,6 @@
 // The rules by their numbers.
 ghost use Rattle.std.specs.Prelude.{◌≡◌};
+ghost use Rattle.std.specs.Option.{ok_or};
 ghost use Rattle.sharing.specs.Choice.{rule_number, rule_of, rule_parts};
 ghost use Rattle.sharing.specs.declared.choice.Rule.TheVariants.{LargestRemainder, Running};
 ghost use Rattle.sharing.specs.LargestFair.{largest_remainder_fair};
@@ -10,31 +11,35 @@ use crate::rule::Sharing;
 use crate::running::Running;
 use faults::fault::Fault;
 
-// A rule that is chosen when the program runs.
-#[derive(Clone, Copy, PartialEq, Eq)]
+// A rule that is chosen when the program runs, with its number.
+#[derive(Clone, Copy, Debug, PartialEq, Eq)]
 pub enum Rule {
-    Running,
-    LargestRemainder,
+    Running = 1,
+    LargestRemainder = 2,
 }
 
-impl Rule {
-    pub fn number(self) -> u8
-        ensures { result ≡ rule_number self }
-    {
-        match self {
-            Rule::Running => 1,
-            Rule::LargestRemainder => 2,
-        }
-    }
+// A number that no rule has. An error of its own for each `TryFrom`, as in Rust.
+#[derive(Clone, Copy, Debug, PartialEq, Eq)]
+pub struct UnknownRule(pub u8);
 
-    // The rule with this number, if there is one.
-    pub fn from_number(number: u8) -> Option<Rule>
-        ensures { result ≡ rule_of number }
-    {
+impl From<Rule> for u8 {
+    ghost from_gives = { λ rule number. number ≡ rule_number rule };
+
+    fn from(rule: Rule) -> u8 {
+        rule as u8
+    }
+}
+
+impl TryFrom<u8> for Rule {
+    type Error = UnknownRule;
+
+    ghost try_from_gives = { λ number rule. rule ≡ ok_or (rule_of number) (record { 0 = number }) };
+
+    fn try_from(number: u8) -> Result<Rule, UnknownRule> {
         match number {
-            1 => Some(Rule::Running),
-            2 => Some(Rule::LargestRemainder),
-            _ => None,
+            1 => Ok(Rule::Running),
+            2 => Ok(Rule::LargestRemainder),
+            _ => Err(UnknownRule(number)),
         }
     }
 }
@@ -45,6 +50,7 @@ impl Sharing for Rule {
     ghost fair = { elim [ Running ↦ running_fair | LargestRemainder ↦ largest_remainder_fair ] };
 
     fn share(&self, amount: u64, weights: &[u64], shares: &mut [u64]) -> Result<(), Fault> {
+        // The rules are closed, and no function may hand out a `dyn`.
         match self {
             Rule::Running => Running.share(amount, weights, shares),
             Rule::LargestRemainder => LargestRemainder.share(amount, weights, shares),

@@ -1,6 +1,6 @@
 // Proportions of an amount, with no product of the amount and a weight: that would not fit 64 bits.
-ghost use Rattle.std.specs.Prelude.{◌≡◌, ◌*◌, ◌/◌, ◌%◌, ◌<◌, ◌≤◌};
-ghost use Rattle.sharing.specs.Limits.{most_amount, most_weight};
+ghost use Rattle.std.specs.Prelude.{◌≡◌, ◌*◌, ◌/◌, ◌%◌, ◌<◌, ◌≤◌, length, sum};
+ghost use Rattle.sharing.specs.Limits.{most_amount, most_places, most_weight};
 
 #[derive(Clone, Copy)]
 pub struct Divided {
@@ -61,6 +61,32 @@ impl Rate {
         Divided {
             quotient: self.each * weight + divided.quotient,
             remainder: divided.remainder,
+        }
+    }
+}
+
+// The weights, of which there are some, and the rate at which an amount is shared over them.
+#[derive(Clone, Copy)]
+pub struct Proportions<'a> {
+    pub weights: &'a [u64],
+    pub rate: Rate,
+    ghost few: { length weights.now ≤ most_places },
+    ghost whole: { rate.total ≡ sum weights.now },
+}
+
+impl<'a> Proportions<'a> {
+    pub fn new(amount: u64, weights: &'a [u64], total: u64) -> Proportions<'a>
+        requires few { length weights.now ≤ most_places }
+        requires whole { total ≡ sum weights.now }
+        requires some { 0 < total }
+        requires small { amount ≤ most_amount }
+        requires light { total ≤ most_weight }
+        ensures amount { result.rate.amount ≡ amount }
+        ensures weights { result.weights.now ≡ weights.now }
+    {
+        Proportions {
+            weights,
+            rate: Rate::new(amount, total),
         }
     }
 }

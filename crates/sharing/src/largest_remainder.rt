@@ -1,28 +1,28 @@
 // The largest-remainder rule.
-ghost use Rattle.std.specs.Prelude.{◌≡◌, ℕ, ◌+◌, ◌<◌, ◌≤◌, ◌&&◌, ◌||◌, ltb, map, length, if◌then◌else◌, sum, ◌==◌, nat_lt, slice_index};
+ghost use Rattle.std.specs.Prelude.{◌≡◌, ℕ, ◌+◌, ◌<◌, ◌≤◌, ◌&&◌, ◌||◌, ltb, map, length, if◌then◌else◌, ◌==◌, nat_lt, slice_index};
 ghost use Rattle.std.specs.List.{range_with_len};
 ghost use Rattle.sharing.specs.LargestRemainder.{floors, largest_remainder, missing, rank, remainders};
 ghost use Rattle.sharing.specs.Limits.{most_amount};
 ghost use Rattle.sharing.specs.LargestFair.{largest_remainder_fair};
 
-use crate::division::Rate;
-use crate::limits::{MOST_PLACES, total_weight};
-use crate::rule::Sharing;
-use crate::zeros::clear;
-use faults::fault::Fault;
+use crate::division::Proportions;
+use crate::laying::Laying;
+use crate::limits::MOST_PLACES;
+use std::cmp::Reverse;
 
 // Writes the floors and the remainders, and answers how many mils the floors leave over.
-fn lay_floors(rate: &Rate, weights: &[u64], shares: &mut [u64], rests: &mut [u64]) -> u64
-    requires places { length shares.old ≡ length weights.now }
-    requires room { length rests.old ≡ length weights.now }
-    requires total { rate.now.total ≡ sum weights.now }
-    ensures floors { shares.new ≡ floors rate.now.amount weights.now }
-    ensures rests { rests.new ≡ remainders rate.now.amount weights.now }
-    ensures lacks { result ≡ missing rate.now.amount weights.now }
+fn lay_floors(proportions: &Proportions, shares: &mut [u64], rests: &mut [u64]) -> u64
+    requires places { length shares.old ≡ length proportions.now.weights.now }
+    requires room { length rests.old ≡ length proportions.now.weights.now }
+    ensures floors { shares.new ≡ floors proportions.now.rate.amount proportions.now.weights.now }
+    ensures rests { rests.new ≡ remainders proportions.now.rate.amount proportions.now.weights.now }
+    ensures lacks { result ≡ missing proportions.now.rate.amount proportions.now.weights.now }
 {
+    let Proportions { weights, rate } = *proportions;
     let mut lacking = rate.amount;
-    for i in 0..weights.len() {
-        let portion = rate.portion(weights[i]);
+    // By place and not as a zip: of what is written through one a proof knows the length alone.
+    for (i, weight) in weights.iter().enumerate() {
+        let portion = rate.portion(*weight);
         shares[i] = portion.quotient;
         rests[i] = portion.remainder;
         lacking -= portion.quotient;
@@ -34,7 +34,7 @@ fn lay_floors(rate: &Rate, weights: &[u64], shares: &mut [u64], rests: &mut [u64
 fn comes_before(rest: u64, j: usize, other: u64, i: usize) -> bool
     ensures { result ≡ (nat_lt other rest || (other == rest && nat_lt j i)) }
 {
-    other < rest || (other == rest && j < i)
+    (Reverse(rest), j) < (Reverse(other), i)
 }
 
 // How many places come before place i.
@@ -42,9 +42,11 @@ fn rank_of(rests: &[u64], i: usize) -> usize
     requires { i < length rests.now }
     ensures { result ≡ rank rests.now i }
 {
+    let own = rests[i];
     let mut n = 0;
-    for j in 0..rests.len() {
-        if comes_before(rests[j], j, rests[i], i) {
+    // Tried as a chain of enumerate, filter and count: it proves, and the rule takes more than twice as long.
+    for (j, rest) in rests.iter().enumerate() {
+        if comes_before(*rest, j, own, i) {
             n += 1;
         }
     }
@@ -57,22 +59,11 @@ fn give_missing(lacking: u64, rests: &[u64], shares: &mut [u64])
     requires small { (k : ℕ) → k < length shares.old → slice_index shares.old k ≤ most_amount }
     ensures { shares.new ≡ map (λ i. slice_index shares.old i + (if ltb (rank rests.now i) lacking then 1 else 0)) (range_with_len 0 (length rests.now)) }
 {
-    for i in 0..rests.len() {
+    for (i, share) in shares.iter_mut().enumerate() {
         if (rank_of(rests, i) as u64) < lacking {
-            shares[i] += 1;
+            *share += 1;
         }
     }
-}
-
-// The floors, and the missing mils to the places with the largest remainders.
-fn lay_largest(rate: &Rate, weights: &[u64], shares: &mut [u64], rests: &mut [u64])
-    requires places { length shares.old ≡ length weights.now }
-    requires room { length rests.old ≡ length weights.now }
-    requires total { rate.now.total ≡ sum weights.now }
-    ensures { shares.new ≡ largest_remainder rate.now.amount weights.now }
-{
-    let lacking = lay_floors(rate, weights, shares, rests);
-    give_missing(lacking, rests, shares);
 }
 
 // Each part is the floor of its proportion, and the missing mils go one each to the largest remainders, the earlier
@@ -80,21 +71,17 @@ fn lay_largest(rate: &Rate, weights: &[u64], shares: &mut [u64], rests: &mut [u6
 #[derive(Clone, Copy)]
 pub struct LargestRemainder;
 
-impl Sharing for LargestRemainder {
-    ghost parts = { λ _. largest_remainder };
+impl Laying for LargestRemainder {
+    ghost laid = { largest_remainder };
 
-    ghost fair = { λ s. largest_remainder_fair };
+    ghost laid_fair = { largest_remainder_fair };
 
-    fn share(&self, amount: u64, weights: &[u64], shares: &mut [u64]) -> Result<(), Fault> {
-        let places = shares.len();
-        let total = total_weight(amount, weights, places)?;
-        if total == 0 {
-            clear(shares);
-        } else {
-            let mut room = [0u64; MOST_PLACES];
-            let rests = &mut room[0..places];
-            lay_largest(&Rate::new(amount, total), weights, shares, rests);
-        }
-        Ok(())
+    // The floors, and the missing mils to the places with the largest remainders.
+    fn lay(proportions: &Proportions, shares: &mut [u64]) {
+        // Beside the caller's list, a fixed array cut to its length: sharing may not allocate.
+        let mut room = [0u64; MOST_PLACES];
+        let rests = &mut room[..shares.len()];
+        let lacking = lay_floors(proportions, shares, rests);
+        give_missing(lacking, rests, shares);
     }
 }

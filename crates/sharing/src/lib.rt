@@ -5,8 +5,8 @@
 pub mod choice;
 mod division;
 pub mod largest_remainder;
+mod laying;
 pub mod limits;
 pub mod rule;
 pub mod running;
 pub mod signed;
-mod zeros;

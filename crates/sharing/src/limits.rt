@@ -1,5 +1,5 @@
 // What a rule may be asked to share.
-ghost use Rattle.std.specs.Prelude.{◌≡◌, ◌+◌, ◌≤◌, ◌&&◌, leb, length, if◌then◌else◌, Some, None, sum, ◌==◌, nat_le};
+ghost use Rattle.std.specs.Prelude.{◌≡◌, ◌≤◌, ◌&&◌, leb, length, if◌then◌else◌, Some, None, sum, ◌==◌, nat_le};
 ghost use Rattle.sharing.specs.Limits.{most_amount, most_places, most_weight};
 ghost use Rattle.sharing.specs.Shareable.{total_answer};
 
@@ -17,29 +17,17 @@ pub const MOST_PLACES: usize = 32;
 fn is_within(amount: u64, weights: usize, places: usize) -> bool
     ensures { result ≡ (places == weights && (nat_le 1 weights && (nat_le weights most_places && nat_le amount most_amount))) }
 {
-    places == weights && 1 <= weights && weights <= MOST_PLACES && amount <= MOST_AMOUNT
-}
-
-// Is the sum still within the limit with this weight?
-fn has_room(total: u64, weight: u64) -> bool
-    requires { total ≤ most_weight }
-    ensures { result ≡ nat_le (total + weight) most_weight }
-{
-    weight <= MOST_WEIGHT - total
+    places == weights && (1..=MOST_PLACES).contains(&weights) && amount <= MOST_AMOUNT
 }
 
 // The sum of the weights, where it is not too large.
 fn limited_sum(weights: &[u64]) -> Option<u64>
     ensures { result ≡ (if leb (sum weights.now) most_weight then Some (sum weights.now) else None) }
 {
-    let mut total = 0;
-    for weight in weights {
-        if !has_room(total, *weight) {
-            return None;
-        }
-        total += *weight;
-    }
-    Some(total)
+    let total = weights
+        .iter()
+        .try_fold(0u64, |total, weight| total.checked_add(*weight))?;
+    (total <= MOST_WEIGHT).then_some(total)
 }
 
 // The sum of the weights, or the refusal of every rule: the lists differ in length, there is no weight or there are too
@@ -47,14 +35,7 @@ fn limited_sum(weights: &[u64]) -> Option<u64>
 pub fn total_weight(amount: u64, weights: &[u64], places: usize) -> Result<u64, Fault>
     ensures { result ≡ total_answer amount weights.now places }
 {
-    if !is_within(amount, weights.len(), places) {
-        return Err(Fault::plain(Refusal::NotShareable));
-    }
-    let Some(total) = limited_sum(weights) else {
-        return Err(Fault::plain(Refusal::NotShareable));
-    };
-    if total == 0 && amount != 0 {
-        return Err(Fault::plain(Refusal::NotShareable));
-    }
-    Ok(total)
+    limited_sum(weights)
+        .filter(|total| is_within(amount, weights.len(), places) && (*total > 0 || amount == 0))
+        .ok_or(Fault::plain(Refusal::NotShareable))
 }

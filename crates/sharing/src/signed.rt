@@ -14,7 +14,7 @@ fn with_sign(amount: i64, part: u64) -> i64
     requires { part ≤ most_amount }
     ensures { result ≡ with_sign_of amount part }
 {
-    let magnitude = part as i64;
+    let magnitude = part.cast_signed();
     if amount < 0 { -magnitude } else { magnitude }
 }
 
@@ -24,29 +24,9 @@ fn lay_signed(amount: i64, parts: &[u64], shares: &mut [i64])
     requires small { (k : ℕ) → k < length parts.now → slice_index parts.now k ≤ most_amount }
     ensures { shares.new ≡ map (with_sign_of amount) parts.now }
 {
-    for i in 0..parts.len() {
-        shares[i] = with_sign(amount, parts[i]);
-    }
-}
-
-// Shares an amount by its magnitude, which the parts take first.
-fn share_by_magnitude<R: Sharing>(
-    rule: &R,
-    amount: i64,
-    weights: &[u64],
-    magnitudes: &mut [u64],
-    shares: &mut [i64],
-) -> Result<(), Fault>
-    requires { length magnitudes.old ≡ length shares.old }
-    ensures answer { result ≡ share_answer (unsigned_abs amount) weights.now (length shares.old) }
-    ensures after { shares.new ≡ signed_leaves (R.Sharing.parts rule.now) amount weights.now shares.old }
-{
-    match rule.share(amount.unsigned_abs(), weights, magnitudes) {
-        Ok(()) => {
-            lay_signed(amount, magnitudes, shares);
-            Ok(())
-        }
-        Err(fault) => Err(fault),
+    // By place and not as a zip: of what is written through one a proof knows the length alone.
+    for (i, share) in shares.iter_mut().enumerate() {
+        *share = with_sign(amount, parts[i]);
     }
 }
 
@@ -65,6 +45,10 @@ pub fn share_signed<R: Sharing>(
     if places > MOST_PLACES {
         return Err(Fault::plain(Refusal::NotShareable));
     }
+    // A fixed array cut to length: sharing may not allocate.
     let mut room = [0u64; MOST_PLACES];
-    share_by_magnitude(rule, amount, weights, &mut room[0..places], shares)
+    let magnitudes = &mut room[..places];
+    rule.share(amount.unsigned_abs(), weights, magnitudes)?;
+    lay_signed(amount, magnitudes, shares);
+    Ok(())
 }

@@ -36,14 +36,13 @@ price_in RealTime None = pos 0
 abbrev pub market_price : List Price → Market → ℕ → ℕ → ℤ
 market_price prices market node hour = price_in market (price_at prices node hour)
 
--- a position's deviation: real-time energy less day-ahead energy
-abbrev pub deviation : Position → ℤ
-deviation p = pos p.real_time -ℤ pos p.day_ahead
+-- what a market settles of a quantity: that of the day before, and in real time the deviation from it
+abbrev pub energy_in : Market → ℕ → ℕ → ℤ
+energy_in DayAhead day_ahead real_time = pos day_ahead
+energy_in RealTime day_ahead real_time = pos real_time -ℤ pos day_ahead
 
--- what a market settles of a position: the energy of the day before, and in real time the deviation from it
 abbrev pub position_energy : Market → Position → ℤ
-position_energy DayAhead p = pos p.day_ahead
-position_energy RealTime p = deviation p
+position_energy market p = energy_in market p.day_ahead p.real_time
 
 -- sign × price × energy
 abbrev pub position_term : List Price → Market → Position → ℤ
@@ -57,10 +56,8 @@ abbrev pub reserve_price : Market → Reserve → ℤ
 reserve_price DayAhead x = pos x.day_ahead_price
 reserve_price RealTime x = pos x.real_time_price
 
--- a reserve of the day before, and in real time the deviation from it
 abbrev pub reserve_energy : Market → Reserve → ℤ
-reserve_energy DayAhead x = pos x.day_ahead
-reserve_energy RealTime x = pos x.real_time -ℤ pos x.day_ahead
+reserve_energy market x = energy_in market x.day_ahead x.real_time
 
 abbrev pub reserve_term : Market → Reserve → ℤ
 reserve_term market x = reserve_price market x *ℤ reserve_energy market x

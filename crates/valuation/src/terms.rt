@@ -1,62 +1,57 @@
-// What one record comes to.
-ghost use Rattle.std.specs.Prelude.{◌≡◌, ℕ, ◌*◌, ◌≤◌, ℤ, ◌+ℤ◌, ◌-ℤ◌, ◌*ℤ◌, Some, unsigned_abs};
+// What one record comes to. What callers know of a valid record stands in the contracts that they see, so a struct that
+// carries it would serve the few private functions alone. `ValidPrice` is defined above the price grid, which cannot carry it.
+ghost use Rattle.std.specs.Prelude.{◌≡◌, ◌≤◌, pos, ◌-ℤ◌, ◌*ℤ◌, Some, unsigned_abs};
 ghost use Rattle.std.specs.List.{AllByRecursion};
-ghost use Rattle.valuation.specs.Terms.{class_buys, class_sign, deviation, exchange_energy, exchange_term, failed_term, fine_mils, imbalance_term, imbalance_value, market_price, net_export, position_energy, position_term, price_in, reserve_energy, reserve_price, reserve_term};
+ghost use Rattle.valuation.specs.Terms.{class_buys, class_sign, energy_in, exchange_energy, exchange_term, failed_term, fine_mils, imbalance_term, imbalance_value, market_price, net_export, position_term, price_in, reserve_price, reserve_term};
 ghost use Rattle.valuation.specs.Valid.{ValidFine, ValidInterconnection, ValidPosition, ValidPrice, ValidReserve};
 
 use crate::market::Market;
 use dayfile::record::{Class, Fine, Interconnection, Position, Price, Reserve};
 use price_grid::grid::PriceGrid;
 
+// Is energy of the class bought?
+pub fn is_bought(class: Class) -> bool
+    ensures { result ≡ class_buys class }
+{
+    matches!(class, Class::Load | Class::Export)
+}
+
 // 1 for energy put into the system, −1 for energy taken out.
 fn sign(class: Class) -> i64
     ensures value { result ≡ class_sign class }
     ensures bound { unsigned_abs result ≤ 1 }
 {
-    match class {
-        Class::Generation | Class::Import => 1,
-        Class::Load | Class::Export => -1,
+    if is_bought(class) { -1 } else { 1 }
+}
+
+fn difference(a: u32, b: u32) -> i64
+    ensures { result ≡ pos a -ℤ pos b }
+{
+    i64::from(a) - i64::from(b)
+}
+
+// What a market settles of a quantity: that of the day before, and in real time the deviation from it.
+fn energy_in(market: Market, day_ahead: u32, real_time: u32) -> i64
+    requires day { day_ahead ≤ 2000000 }
+    requires real { real_time ≤ 2000000 }
+    ensures value { result ≡ energy_in market day_ahead real_time }
+    ensures bound { unsigned_abs result ≤ 2000000 }
+{
+    match market {
+        Market::DayAhead => i64::from(day_ahead),
+        Market::RealTime => difference(real_time, day_ahead),
     }
 }
 
-// Is energy of the class bought?
-pub fn is_bought(class: Class) -> bool
-    ensures { result ≡ class_buys class }
-{
-    match class {
-        Class::Generation | Class::Import => false,
-        Class::Load | Class::Export => true,
-    }
-}
-
-// price × kWh
-fn product(price: i64, kwh: i64) -> i64
-    requires price { unsigned_abs price ≤ 10000000 }
-    requires kwh { unsigned_abs kwh ≤ 4000000 }
-    ensures value { result ≡ price *ℤ kwh }
-    ensures bound { unsigned_abs result ≤ 10000000 * unsigned_abs kwh }
-{
-    price * kwh
-}
-
-// sign × price × kWh
-fn signed_product(class: Class, price: i64, kwh: i64) -> i64
-    requires price { unsigned_abs price ≤ 10000000 }
-    requires kwh { unsigned_abs kwh ≤ 2000000 }
-    ensures value { result ≡ class_sign class *ℤ price *ℤ kwh }
-    ensures bound { unsigned_abs result ≤ 20000000000000 }
-{
-    sign(class) * price * kwh
-}
-
+// Each record has fields and types of its own, so each has its match on the market.
 fn price_in(market: Market, p: Price) -> i64
     requires { ValidPrice p }
     ensures value { result ≡ price_in market (Some p) }
     ensures bound { unsigned_abs result ≤ 10000000 }
 {
     match market {
-        Market::DayAhead => p.day_ahead as i64,
-        Market::RealTime => p.real_time as i64,
+        Market::DayAhead => i64::from(p.day_ahead),
+        Market::RealTime => i64::from(p.real_time),
     }
 }
 
@@ -66,31 +61,9 @@ fn price_for(prices: &PriceGrid, market: Market, node: u8, hour: u8) -> i64
     ensures value { result ≡ market_price prices.now.prices.now market node hour }
     ensures bound { unsigned_abs result ≤ 10000000 }
 {
-    match prices.price_at(node, hour) {
-        Some(p) => price_in(market, p),
-        None => 0,
-    }
-}
-
-// A position's deviation: real-time energy less day-ahead energy.
-fn deviation_of(x: &Position) -> i64
-    requires { ValidPosition x.now }
-    ensures value { result ≡ deviation x.now }
-    ensures bound { unsigned_abs result ≤ 2000000 }
-{
-    let scheduled = x.day_ahead as i64;
-    x.real_time as i64 - scheduled
-}
-
-fn energy(market: Market, x: &Position) -> i64
-    requires { ValidPosition x.now }
-    ensures value { result ≡ position_energy market x.now }
-    ensures bound { unsigned_abs result ≤ 2000000 }
-{
-    match market {
-        Market::DayAhead => x.day_ahead as i64,
-        Market::RealTime => deviation_of(x),
-    }
+    prices
+        .price_at(node, hour)
+        .map_or(0, |p| price_in(market, p))
 }
 
 // What a position comes to in a market.
@@ -100,11 +73,8 @@ pub fn position_term(prices: &PriceGrid, market: Market, x: &Position) -> i64
     ensures value { result ≡ position_term prices.now.prices.now market x.now }
     ensures bound { unsigned_abs result ≤ 20000000000000 }
 {
-    signed_product(
-        x.class,
-        price_for(prices, market, x.node, x.hour),
-        energy(market, x),
-    )
+    let energy = energy_in(market, x.day_ahead, x.real_time);
+    sign(x.class) * price_for(prices, market, x.node, x.hour) * energy
 }
 
 fn reserve_price(market: Market, x: &Reserve) -> i64
@@ -113,19 +83,8 @@ fn reserve_price(market: Market, x: &Reserve) -> i64
     ensures bound { unsigned_abs result ≤ 10000000 }
 {
     match market {
-        Market::DayAhead => x.day_ahead_price as i64,
-        Market::RealTime => x.real_time_price as i64,
-    }
-}
-
-fn reserve_energy(market: Market, x: &Reserve) -> i64
-    requires { ValidReserve x.now }
-    ensures value { result ≡ reserve_energy market x.now }
-    ensures bound { unsigned_abs result ≤ 2000000 }
-{
-    match market {
-        Market::DayAhead => x.day_ahead as i64,
-        Market::RealTime => x.real_time as i64 - x.day_ahead as i64,
+        Market::DayAhead => i64::from(x.day_ahead_price),
+        Market::RealTime => i64::from(x.real_time_price),
     }
 }
 
@@ -135,7 +94,7 @@ pub fn reserve_term(market: Market, x: &Reserve) -> i64
     ensures value { result ≡ reserve_term market x.now }
     ensures bound { unsigned_abs result ≤ 20000000000000 }
 {
-    product(reserve_price(market, x), reserve_energy(market, x))
+    reserve_price(market, x) * energy_in(market, x.day_ahead, x.real_time)
 }
 
 // What a reserve that failed came to in both markets.
@@ -144,9 +103,7 @@ pub fn failed_term(x: &Reserve) -> i64
     ensures value { result ≡ failed_term x.now }
     ensures bound { unsigned_abs result ≤ 40000000000000 }
 {
-    let day = reserve_term(Market::DayAhead, x);
-    let real = reserve_term(Market::RealTime, x);
-    day + real
+    reserve_term(Market::DayAhead, x) + reserve_term(Market::RealTime, x)
 }
 
 // Export less import.
@@ -156,8 +113,8 @@ fn net_export(market: Market, x: &Interconnection) -> i64
     ensures bound { unsigned_abs result ≤ 2000000 }
 {
     match market {
-        Market::DayAhead => x.day_ahead_export as i64 - x.day_ahead_import as i64,
-        Market::RealTime => x.real_time_export as i64 - x.real_time_import as i64,
+        Market::DayAhead => difference(x.day_ahead_export, x.day_ahead_import),
+        Market::RealTime => difference(x.real_time_export, x.real_time_import),
     }
 }
 
@@ -168,11 +125,7 @@ fn exchange_energy(market: Market, x: &Interconnection) -> i64
 {
     match market {
         Market::DayAhead => net_export(Market::DayAhead, x),
-        Market::RealTime => {
-            let real = net_export(Market::RealTime, x);
-            let day = net_export(Market::DayAhead, x);
-            real - day
-        }
+        Market::RealTime => net_export(Market::RealTime, x) - net_export(Market::DayAhead, x),
     }
 }
 
@@ -183,18 +136,7 @@ pub fn exchange_term(prices: &PriceGrid, market: Market, x: &Interconnection) ->
     ensures value { result ≡ exchange_term prices.now.prices.now market x.now }
     ensures bound { unsigned_abs result ≤ 40000000000000 }
 {
-    product(
-        price_for(prices, market, x.node, x.hour),
-        exchange_energy(market, x),
-    )
-}
-
-fn imbalance_price(x: &Interconnection) -> i64
-    requires { ValidInterconnection x.now }
-    ensures value { result ≡ x.now.imbalance_price }
-    ensures bound { unsigned_abs result ≤ 10000000 }
-{
-    x.imbalance_price as i64
+    price_for(prices, market, x.node, x.hour) * exchange_energy(market, x)
 }
 
 // Imbalance price × real-time net export.
@@ -203,7 +145,7 @@ pub fn imbalance_term(x: &Interconnection) -> i64
     ensures value { result ≡ imbalance_term x.now }
     ensures bound { unsigned_abs result ≤ 20000000000000 }
 {
-    product(imbalance_price(x), net_export(Market::RealTime, x))
+    i64::from(x.imbalance_price) * net_export(Market::RealTime, x)
 }
 
 // One market's price × another's net export.
@@ -213,34 +155,11 @@ fn priced_export(prices: &PriceGrid, price: Market, flow: Market, x: &Interconne
     ensures value { result ≡ market_price prices.now.prices.now price x.now.node x.now.hour *ℤ net_export flow x.now }
     ensures bound { unsigned_abs result ≤ 20000000000000 }
 {
-    product(
-        price_for(prices, price, x.node, x.hour),
-        net_export(flow, x),
-    )
-}
-
-// a + b − c
-fn combined(a: i64, b: i64, c: i64) -> i64
-    requires a { unsigned_abs a ≤ 20000000000000 }
-    requires b { unsigned_abs b ≤ 20000000000000 }
-    requires c { unsigned_abs c ≤ 20000000000000 }
-    ensures value { result ≡ a +ℤ b -ℤ c }
-    ensures bound { unsigned_abs result ≤ 60000000000000 }
-{
-    let sum = a + b;
-    sum - c
-}
-
-fn less(a: i64, b: i64) -> i64
-    requires a { unsigned_abs a ≤ 60000000000000 }
-    requires b { unsigned_abs b ≤ 20000000000000 }
-    ensures value { result ≡ a -ℤ b }
-    ensures bound { unsigned_abs result ≤ 80000000000000 }
-{
-    a - b
+    price_for(prices, price, x.node, x.hour) * net_export(flow, x)
 }
 
 // The value of the imbalance.
+#[tactic(auto, using(crate::proofs::Products::four_is))]
 pub fn imbalance_value(prices: &PriceGrid, x: &Interconnection) -> i64
     requires prices { AllByRecursion ValidPrice prices.now.prices.now }
     requires interconnection { ValidInterconnection x.now }
@@ -250,7 +169,7 @@ pub fn imbalance_value(prices: &PriceGrid, x: &Interconnection) -> i64
     let scheduled = priced_export(prices, Market::DayAhead, Market::DayAhead, x);
     let metered = priced_export(prices, Market::RealTime, Market::RealTime, x);
     let replaced = priced_export(prices, Market::RealTime, Market::DayAhead, x);
-    less(combined(scheduled, metered, replaced), imbalance_term(x))
+    scheduled + metered - replaced - imbalance_term(x)
 }
 
 // A fine in mils.
@@ -259,5 +178,5 @@ pub fn fine_mils(x: &Fine) -> i64
     ensures value { result ≡ fine_mils x.now }
     ensures bound { unsigned_abs result ≤ 1000000000000000 }
 {
-    (x.centavos * 1000) as i64
+    (x.centavos * 1000).cast_signed()
 }

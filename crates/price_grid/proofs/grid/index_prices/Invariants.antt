@@ -1,7 +1,7 @@
-use Rattle.std.proofs.Common.{drop}
+use Rattle.std.proofs.Common.{map, reverse}
 use Rattle.price_grid.specs.Grid.{Indexes}
 use Rattle.price_grid.proofs.grid.index_prices.Given as goal
 
--- the grid has the prices from i on
-abbrev pub invariant-loop-i : goal.invariant-loop-i
-invariant-loop-i l = Indexes l.spots (drop l.i l.prices)
+-- the spots have the prices from the last one down
+abbrev pub invariant-loop-p : goal.invariant-loop-p
+invariant-loop-p l = Indexes l.spots (reverse (map (λ p. p.now) l.yielded))

@@ -1,20 +1,23 @@
+use Rattle.std.proofs.Common.{◌≡◌, map, nat_abs, sum, ap, ◌∙◌, w64}
 use Rattle.std.proofs.lemmas.Int.{to_z-of_z}
-use Rattle.sharing.proofs.SignedSums.{signed_made}
+use Rattle.sharing.specs.Shareable.{not_shareable}
+use Rattle.sharing.specs.Signed.{sumℤ, with_sign_of}
+use Rattle.sharing.specs.Admitted.{admitted_parts, ok_of}
+use Rattle.sharing.proofs.SignedSums.{signed_total}
 use Rattle.sharing.proofs.signed.share_signed.Goals as goal
 
-pub returns : goal.returns
-returns g c =
+-- by the law the magnitudes add up to that of the amount
+pub returns-clause-whole : goal.returns-clause-whole
+returns-clause-whole g c =
     let z = c.args.amount in
     let fits = c.ranges.amount in
+    let a = c.unsigned_abs.result in
     let ws = c.args.weights.now in
-    let before = c.args.shares.now in
     let rule = c.args.rule.now in
-    let r = c.share_by_magnitude.result in
-    let after = c.share_by_magnitude.new.shares in
-    let answer = simp to_z-of_z at c.share_by_magnitude.ensures.answer in
-    let left = simp to_z-of_z at c.share_by_magnitude.ensures.after in
-    record {
-      answer = answer;
-      after = left;
-      whole = signed_made (g.R.Sharing.parts rule) z ws before (g.met.R.Sharing.fair rule) r after answer left;
-    }
+    let xs = c.share.new.shares in
+    let abs : a ≡ nat_abs z = c.unsigned_abs.ensures.value ∙ ap nat_abs (to_z-of_z w64 z fits) in
+    let laid : c.lay_signed.new.shares ≡ map (with_sign_of z) xs = c.lay_signed.ensures ∙ ap (λ x. map (with_sign_of x) xs) (to_z-of_z w64 z fits) in
+    let yes = (ok_of _ tt _ not_shareable c.in_ok-share.ensures.answer).0 in
+    let s = (admitted_parts a ws _ yes).1 in
+    let all : sum xs ≡ a = ap sum (rw yes at c.in_ok-share.ensures.after) ∙ (g.met.R.Sharing.fair rule).whole a ws s in
+    ap sumℤ laid ∙ signed_total z xs (all ∙ abs)

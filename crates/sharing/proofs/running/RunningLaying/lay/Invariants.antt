@@ -1,7 +1,7 @@
 use Rattle.std.proofs.Common.{◌≡◌, ℕ, ◌<◌, get_or, take, sum}
 use Rattle.sharing.specs.Running.{due}
 use Rattle.sharing.specs.RunningFair.{part}
-use Rattle.sharing.proofs.running.lay_running.Given as goal
+use Rattle.sharing.proofs.running.RunningLaying.lay.Given as goal
 
 abbrev pub invariant-loop-i : goal.invariant-loop-i
 invariant-loop-i l =
