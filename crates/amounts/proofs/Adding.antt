@@ -22,11 +22,6 @@ pub sum_same : {X : Type 0} (f g : X → ℤ) → ((x : X) → f x ≡ g x) → 
 sum_same f g h [] = refl
 sum_same f g h (x ∷ xs) = λ i. h x i +ℤ sum_same f g h xs i
 
--- equal at every element of the list
-pub sum_same_all : {X : Type 0} (f g : X → ℤ) (xs : List X) → AllByRecursion (λ x. f x ≡ g x) xs → sum_over f xs ≡ sum_over g xs
-sum_same_all f g [] h = refl
-sum_same_all f g (x ∷ xs) h = λ i. h.0 i +ℤ sum_same_all f g xs h.1 i
-
 pub sum_zero : {X : Type 0} (xs : List X) → sum_over (λ (x : X). pos 0) xs ≡ pos 0
 sum_zero [] = refl
 sum_zero (x ∷ xs) = ap (λ z. pos 0 +ℤ z) (sum_zero xs)

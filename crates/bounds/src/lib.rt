@@ -4,9 +4,7 @@
 ghost use Rattle.bounds.specs.Bounded.{SoundBooksCanBeShared, SoundBooksHaveValidRecords};
 
 // Every record of a sound book is valid, and its amounts keep within the limits of a sharing rule.
-pub fn sound_books_stand() -> u8
+pub fn sound_books_stand()
     ensures valid { SoundBooksHaveValidRecords }
     ensures shared { SoundBooksCanBeShared }
-{
-    0
-}
+{}

@@ -5,3 +5,4 @@ pub mod Lacking
 pub mod Shares
 pub mod Charged
 pub mod Small
+pub mod Sounds

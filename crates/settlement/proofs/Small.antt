@@ -111,18 +111,6 @@ module _ (f : ℕ → List ℕ → List ℕ) (fair : Fair f) (r : Records) (s : 
   cell_le n l F6 q = of_items n q (sheets f r (range_with_len 1 n) F6 q) (item f r F6 q) refl (amount_le r.heading.accounts 50000000000000000 (items f r F6) (λ _. omega arith) (λ _. omega arith) (omega arith) (all_fines_le r s) q)
 
 -- the first of some numbers counted
-pub none_counted : (p : ℕ → Bool) (a n : ℕ) → ((h : ℕ) → a ≤ h → h < a + n → p h ≡ false) → first_of p (range_with_len a n) ≡ None
-none_counted p a zero l = refl
-none_counted p a (suc n) l = cond-false (p a) _ _ (l a (omega arith) (omega arith)) ∙ none_counted p (a + 1) n (λ h i j. l h (omega arith) (omega arith))
-
-pub first_counted : (p : ℕ → Bool) (a n h : ℕ) → a ≤ h → h < a + n → p h ≡ true → ((k : ℕ) → a ≤ k → k < h → p k ≡ false) → first_of p (range_with_len a n) ≡ Some h
-first_counted p a zero h i j t l = absurd (omega arith)
-first_counted p a (suc n) h i j t l =
-    ⊎_elim
-    (λ (e : a ≡ h). cond-true (p a) _ _ (ap p e ∙ t) ∙ ap (λ x. Some x) e)
-    (λ (ne : a ≡ h → ⊥). cond-false (p a) _ _ (l a (omega arith) (omega (arith, ne))) ∙ first_counted p (a + 1) n h (omega (arith, ne)) (omega arith) t (λ k u v. l k (omega arith) v))
-    (cases_eq a h)
-
 pub none_then : (p : ℕ → Bool) (a n : ℕ) → first_of p (range_with_len a n) ≡ None → (h : ℕ) → a ≤ h → h < a + n → p h ≡ false
 none_then p a zero e h i j = absurd (omega arith)
 none_then p a (suc n) e h i j =

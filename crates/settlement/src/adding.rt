@@ -1,5 +1,6 @@
-// Adding amounts to a table.
-ghost use Rattle.std.specs.Prelude.{◌≡◌, ℕ, ◌<◌, ◌≤◌, true, length, ℤ, pos, is_some, slice_index_or, unsigned_abs};
+// Adding amounts to a table. Table and code are two parameters and no struct: each call changes the table, and a struct that
+// borrows it would be made anew for each code.
+ghost use Rattle.std.specs.Prelude.{◌≡◌, ℕ, ◌<◌, ◌≤◌, true, length, pos, is_some, slice_index_or, unsigned_abs};
 ghost use Rattle.std.specs.List.{AllByRecursion};
 ghost use Rattle.codes.specs.Cells.{cell};
 ghost use Rattle.codes.specs.Parties.{party_place, system_party};
@@ -10,6 +11,7 @@ ghost use Rattle.settlement.specs.Grown.{Added, RoomIn, RowAdded, listed_amount}
 
 use amounts::sums::Term;
 use codes::code::Code;
+use codes::party::FIRST_SYSTEM;
 use codes::table::Table;
 use dayfile::record::{Fine, Interconnection, Position, Reserve};
 
@@ -24,35 +26,29 @@ pub(crate) fn add(table: &mut Table, code: Code, party: u8, amount: i64)
     table.put(code, party, old + amount);
 }
 
-// The party that a record's amount goes to.
-pub(crate) trait Payee<X> {
-    ghost party: { Self → X → ℕ };
+// A record whose amount goes to a party.
+pub(crate) trait Payee {
+    ghost party: { Self → ℕ };
 
     // What must be known of a record for there to be such a party.
-    ghost listed: { Self → X → Type 0 };
+    ghost listed: { Self → Type 0 };
 
-    fn payee(&self, x: &X) -> u8
-        requires { listed self.now x.now }
-        ensures value { result ≡ party self.now x.now }
+    fn party(&self) -> u8
+        requires { listed self.now }
+        ensures value { result ≡ party self.now }
         ensures known { is_some (party_place result) ≡ true };
 }
 
 // Adds each record's amount to its party's cell under a code, in one pass.
-pub(crate) fn add_each<X, P: Payee<X>, T: Term<X>>(
-    payee: &P,
-    term: &T,
-    xs: &[X],
-    code: Code,
-    table: &mut Table,
-)
+pub(crate) fn add_each<X: Payee, T: Term<X>>(term: &T, xs: &[X], code: Code, table: &mut Table)
     requires few { length xs.now ≤ 1000 }
     requires valid { AllByRecursion (T.Term.valid term.now) xs.now }
-    requires listed { AllByRecursion (P.Payee.listed payee.now) xs.now }
+    requires listed { AllByRecursion X.Payee.listed xs.now }
     requires room { RoomIn table.old code }
-    ensures { RowAdded table.old table.new code (λ q. sum_over (λ x. owned_by (P.Payee.party payee.now x) q (T.Term.adds term.now x)) xs.now) }
+    ensures { RowAdded table.old table.new code (λ q. sum_over (λ x. owned_by (X.Payee.party x) q (T.Term.adds term.now x)) xs.now) }
 {
     for x in xs {
-        add(table, code, payee.payee(x), term.term(x));
+        add(table, code, x.party(), term.term(x));
     }
 }
 
@@ -63,74 +59,61 @@ pub(crate) fn add_listed(amounts: &[i64], code: Code, table: &mut Table)
     requires room { RoomIn table.old code }
     ensures { RowAdded table.old table.new code (listed_amount amounts.now) }
 {
-    for i in 0..amounts.len() {
-        add(table, code, i as u8 + 1, amounts[i]);
+    // By place, as `listed_amount` has it: a zip with `1u8..` is no plainer, and its endless range may not pass 255.
+    for (i, amount) in amounts.iter().enumerate() {
+        add(table, code, i as u8 + 1, *amount);
+    }
+}
+
+// A record that names an account. Each kind of record has its own fields, so each says where its account stands.
+pub(crate) trait OfAccount {
+    ghost account: { Self → ℕ };
+
+    fn account(&self) -> u8
+        ensures { result ≡ account self.now };
+}
+
+impl OfAccount for Position {
+    ghost account = { λ x. x.account };
+
+    fn account(&self) -> u8 {
+        self.account
+    }
+}
+
+impl OfAccount for Reserve {
+    ghost account = { λ x. x.account };
+
+    fn account(&self) -> u8 {
+        self.account
+    }
+}
+
+impl OfAccount for Fine {
+    ghost account = { λ x. x.account };
+
+    fn account(&self) -> u8 {
+        self.account
     }
 }
 
 // An account is the party of its own number.
-fn account_party(account: u8) -> u8
-    requires low { 1 ≤ account }
-    requires high { account ≤ 32 }
-    ensures value { result ≡ account }
-    ensures known { is_some (party_place result) ≡ true }
-{
-    account
-}
+impl<X: OfAccount> Payee for X {
+    ghost party = { λ x. X.account x };
 
-fn system_party(system: u8) -> u8
-    requires low { 1 ≤ system }
-    requires high { system ≤ 4 }
-    ensures value { result ≡ system_party system }
-    ensures known { is_some (party_place result) ≡ true }
-{
-    40 + system
-}
+    ghost listed = { λ x. (1 ≤ X.account x) × (X.account x ≤ 32) };
 
-// To the account that the record names.
-#[derive(Clone, Copy)]
-pub(crate) struct ItsAccount;
-
-impl Payee<Position> for ItsAccount {
-    ghost party = { λ s x. x.account };
-
-    ghost listed = { λ s x. (1 ≤ x.account) × (x.account ≤ 32) };
-
-    fn payee(&self, x: &Position) -> u8 {
-        account_party(x.account)
+    fn party(&self) -> u8 {
+        self.account()
     }
 }
 
-impl Payee<Reserve> for ItsAccount {
-    ghost party = { λ s x. x.account };
+impl Payee for Interconnection {
+    ghost party = { λ x. system_party x.system };
 
-    ghost listed = { λ s x. (1 ≤ x.account) × (x.account ≤ 32) };
+    ghost listed = { λ x. ValidInterconnection x };
 
-    fn payee(&self, x: &Reserve) -> u8 {
-        account_party(x.account)
-    }
-}
-
-impl Payee<Fine> for ItsAccount {
-    ghost party = { λ s x. x.account };
-
-    ghost listed = { λ s x. (1 ≤ x.account) × (x.account ≤ 32) };
-
-    fn payee(&self, x: &Fine) -> u8 {
-        account_party(x.account)
-    }
-}
-
-// To the external system of the interconnection.
-#[derive(Clone, Copy)]
-pub(crate) struct ItsSystem;
-
-impl Payee<Interconnection> for ItsSystem {
-    ghost party = { λ s x. system_party x.system };
-
-    ghost listed = { λ s x. ValidInterconnection x };
-
-    fn payee(&self, x: &Interconnection) -> u8 {
-        system_party(x.system)
+    fn party(&self) -> u8 {
+        FIRST_SYSTEM - 1 + self.system
     }
 }

@@ -4,6 +4,7 @@
 mod adding;
 mod items;
 mod own;
+mod priced;
 pub mod settle;
 mod shared;
 pub mod sheet;

@@ -21,6 +21,3 @@ loop-i-preserved c =
           (get_or-set_same ps i sum (pos 0) within ∙ grew ∙ (λ j. old j +ℤ is j)),
       λ k h. let ne : k ≢ i = omega arith in get_or-set_other ps i k sum (pos 0) ne ∙ c.loop-i.invariant.1 k (omega arith),
     )
-
-pub returns : goal.returns
-returns c = λ k h. c.loop-i.invariant.0 k (omega (arith, c.requires.long))

@@ -1,25 +1,12 @@
 use Rattle.std.proofs.Common.{◌≡◌, ◌+◌, get_or, pos, ◌+ℤ◌, sym, ap, ◌∙◌, arith, w64, SFits, rules}
-use borrow.Author.Differences.{ints}
 use Rattle.std.proofs.lemmas.Int.{to_z-of_z}
 use Rattle.amounts.specs.Amounts.{owned_by}
 use Rattle.settlement.proofs.Known.{known_account}
-use Rattle.settlement.proofs.Rows.{first_amounts, first_more, first_none, past_first, row_as, row_more, row_none}
+use Rattle.settlement.proofs.Rows.{first_amounts, first_more, row_as, row_more}
 use Rattle.settlement.proofs.adding.add_listed.Goals as goal
 
-pub loop-i-init : goal.loop-i-init
-loop-i-init c = row_none c.args.table.now c.args.code _ (first_none c.args.amounts.now)
-
-pub add-requires : goal.add-requires
-add-requires c =
-    let i = c.loop-i.i in
-    let xs = c.args.amounts.now in
-    let fits : SFits w64 (get_or xs i (pos 0)) = search rules in
-    let z = past_first xs i (i + 1) (omega arith) in
-    record {
-      known = known_account (i + 1) (omega arith) (omega (arith, c.requires.few));
-      before = omega (arith, ints, c.loop-i.invariant.row (i + 1), z, c.requires.room (i + 1));
-      more = simp to_z-of_z (omega (arith, c.requires.small i (omega arith)));
-    }
+pub add-requires-clause-known : goal.add-requires-clause-known
+add-requires-clause-known c = known_account (c.loop-i.i + 1) (omega arith) (omega (arith, c.requires.few))
 
 pub loop-i-preserved : goal.loop-i-preserved
 loop-i-preserved c =

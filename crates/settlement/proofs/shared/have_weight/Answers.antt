@@ -1,19 +1,24 @@
-use Rattle.std.proofs.Common.{sum, sym, ap, arith}
-use Rattle.std.proofs.lemmas.List.{take_all}
-use Rattle.std.proofs.lemmas.List.Sums.{get_or-le-sum_by, sum_by_more}
-use Rattle.std.proofs.lemmas.Bool.{le-ltb, lt-ltb}
+use Rattle.std.proofs.Common.{◌≡◌, ℕ, ◌+◌, ◌<◌, ◌≤◌, ◌||◌, ltb, List, [], ◌∷◌, sum, sym, refl, ap, ◌∙◌, ⊎_elim, arith, rules, tests}
+use Rattle.std.specs.List.{list_any}
+use Rattle.std.proofs.lemmas.Bool.{cases_lt, le-ltb, lt-ltb}
+use Rattle.std.proofs.lemmas.List.Sums.{sum_by-cons}
+use Rattle.std.proofs.lemmas.Iterator.{YieldsList-from_slice}
+use Rattle.std.proofs.lemmas.Iterator.Search.{any_from_yields_List}
 use Rattle.settlement.proofs.shared.have_weight.Goals as goal
 
-pub returns-then-weight-gt0 : goal.returns-then-weight-gt0
-returns-then-weight-gt0 c =
-    let ws = c.args.weights.now in
-    sym (lt-ltb 0 (sum ws) (omega (arith, get_or-le-sum_by (λ x. x) ws c.loop-weight.weight-index 0 (omega arith))))
-
-pub loop-weight-preserved : goal.loop-weight-preserved
-loop-weight-preserved c = omega (arith, sum_by_more (λ x. x) c.args.weights.now c.loop-weight.weight-index 0 (omega arith))
+some_weight : (xs : List ℕ) → list_any (ltb 0) xs ≡ ltb 0 (sum xs)
+some_weight [] = refl
+some_weight (x ∷ xs) =
+    ap (λ b. ltb 0 x || b) (some_weight xs)
+    ∙ ⊎_elim
+    (λ (z : x < 1).
+    let e : x + sum xs ≡ sum xs = omega arith in
+    ap (λ b. b || ltb 0 (sum xs)) (le-ltb 0 x (omega arith)) ∙ sym (ap (ltb 0) (sum_by-cons (λ n. n) x xs ∙ e)))
+    (λ (z : 1 ≤ x).
+    ap (λ b. b || ltb 0 (sum xs)) (lt-ltb 0 x z) ∙ sym (ap (ltb 0) (sum_by-cons (λ n. n) x xs) ∙ lt-ltb 0 (x + sum xs) (omega arith)))
+    (cases_lt x 1)
 
 pub returns : goal.returns
 returns c =
-    let ws = c.args.weights.now in
-    let all = ap sum (take_all c.loop-weight.weight-index ws (omega arith)) in
-    sym (le-ltb 0 (sum ws) (omega (arith, all, c.loop-weight.invariant)))
+    let xs = c.args.weights.now in
+    any_from_yields_List (ltb 0) _ _ _ c.any.ensures.ran (YieldsList-from_slice xs cc) (λ x b q k. search (rules, tests)) ∙ some_weight xs
