@@ -61,8 +61,5 @@ same_code c d e = sym (code_at_index c) ∙ ap code_at e ∙ code_at_index d
 abbrev pub code_table : List CodeRow
 code_table = map row_of all_codes
 
-pub row_at_index : (d : CodeRow) (code : Code) → get_or code_table (code_index code) d ≡ row_of code
-row_at_index d code = get_or-map row_of all_codes (code_index code) A1 d (index_below code) ∙ ap row_of (code_at_index code)
-
 pub code_in_row : (d : CodeRow) (i : ℕ) → i < code_count → (get_or code_table i d).code ≡ code_at i
 code_in_row d i h = ap (λ r. r.code) (get_or-map row_of all_codes i A1 d h) ∙ code_of_row (code_at i)

@@ -1,8 +1,10 @@
 -- The parties by their places.
-use Rattle.std.proofs.Common.{◌≡◌, ℕ, zero, suc, ◌<◌, Bool, true, false, cond, ◌&&◌, eqb, List, [], ◌∷◌, length, get_or, IfSome, Some, None, Option, sym, refl, ap, ◌∙◌, subst, ⊎_elim, arith}
-use Rattle.std.specs.Option.{option_map}
+use Rattle.std.proofs.Common.{Bor, slice_get, ◌≡◌, ℕ, zero, suc, ◌<◌, Bool, true, false, cond, ◌&&◌, eqb, List, [], ◌∷◌, length, get_or, IfSome, Some, None, Option, sym, refl, ap, ◌∙◌, subst, ⊎_elim, arith}
+use Rattle.std.specs.Option.{option_copied, option_map}
 use Rattle.std.proofs.lemmas.Bool.{and_parts, cases_eq, eqb-true, false≢true}
-use Rattle.codes.specs.Parties.{party_numbers, party_place, place_by_kind, place_in}
+use Rattle.std.proofs.lemmas.Option.{slice_get_past, slice_get_read}
+use Rattle.std.specs.Slice.{IsItemAt}
+use Rattle.codes.specs.Parties.{party_numbers, party_place, place_in}
 
 unfoldable pub same_place : Option ℕ → Option ℕ → Bool
 same_place None None = true
@@ -27,14 +29,6 @@ each_below zero test e k h = absurd (omega arith)
 each_below (suc n) test e k h =
     let p = and_parts (test n) (all_below n test) e in
     ⊎_elim (λ (s : k ≡ n). ap test s ∙ p.0) (λ (ne : k ≡ n → ⊥). each_below n test p.1 k (omega (arith, ne))) (cases_eq k n)
-
--- the checker computes both for every byte
-tested : all_below 256 (λ n. same_place (place_by_kind n) (party_place n)) ≡ true
-unfolding all_below same_place
-tested = refl
-
-pub by_kind : (n : ℕ) → n < 256 → place_by_kind n ≡ party_place n
-by_kind n h = same (place_by_kind n) (party_place n) (each_below 256 (λ n. same_place (place_by_kind n) (party_place n)) tested n h)
 
 pub place_below : (xs : List ℕ) (n : ℕ) → IfSome (place_in xs n) (λ i. i < length xs)
 place_below [] n = tt
@@ -65,3 +59,8 @@ same_party m n i e f = sym (at_place (party_place m) e (place_holds party_number
 pub found_at : (P : ℕ → Type 0) (o : Option ℕ) (i : ℕ) → o ≡ Some i → IfSome o P → P i
 found_at P None i e h = let z : ◌≡◌ {A = ℕ} 0 1 = cc in absurd (omega arith)
 found_at P (Some j) i e h = let s : j ≡ i = cc in subst P s h
+
+-- what `get` lends is the item at the place, if there is one
+pub slice_get_from_item : {X : Type 0} (xs : List X) (i : ℕ) (r : Option (Bor X)) → IsItemAt xs i r → option_copied r ≡ slice_get xs i
+slice_get_from_item xs i None h = sym (slice_get_past xs i (h.3))
+slice_get_from_item xs i (Some x) h = sym (slice_get_read xs (length xs) i x.now refl (h.3.0) h.1)

@@ -1,5 +1,5 @@
 -- The parties and their numbers.
-use Rattle.std.specs.Prelude.{ℕ, suc, ◌+◌, ◌-◌, cond, ◌&&◌, List, [], ◌∷◌, ◌++◌, length, Some, None, Option, ◌==◌, nat_le, nat_lt, slice_index}
+use Rattle.std.specs.Prelude.{ℕ, suc, ◌+◌, cond, List, [], ◌∷◌, ◌++◌, length, Some, None, Option, ◌==◌, slice_get}
 use Rattle.std.specs.List.{range_with_len}
 use Rattle.std.specs.Option.{option_map}
 use Rattle.codes.specs.declared.code.PartyKind.{PartyKind}
@@ -23,8 +23,9 @@ party_numbers = parties_of Account ++ (parties_of ExternalSystem ++ (parties_of 
 abbrev pub party_count : ℕ
 party_count = length party_numbers
 
+-- the party at a place of that order
 abbrev pub party_at : ℕ → Option ℕ
-party_at place = cond (nat_lt place party_count) (Some (slice_index party_numbers place)) None
+party_at place = slice_get party_numbers place
 
 -- where a number stands first in a list
 abbrev pub place_in : List ℕ → ℕ → Option ℕ
@@ -33,10 +34,3 @@ place_in (x ∷ xs) n = cond (n == x) (Some 0) (option_map suc (place_in xs n))
 
 abbrev pub party_place : ℕ → Option ℕ
 party_place party = place_in party_numbers party
-
--- the same, reckoned from how many parties of each kind there are
-abbrev pub place_by_kind : ℕ → Option ℕ
-place_by_kind party =
-    cond (nat_le 1 party && nat_le party 32) (Some (party - 1))
-    (cond (nat_le 41 party && nat_le party 44) (Some (32 + (party - 41)))
-    (cond (party == 51) (Some 36) (cond (party == 52) (Some 37) None)))

@@ -1,11 +1,13 @@
 // The codes under which amounts are settled.
 ghost use Rattle.std.specs.Prelude.{◌≡◌, ◌<◌};
+ghost use Rattle.std.specs.Option.{ok_or};
 ghost use Rattle.codes.specs.Codes.{basis_number, code_at, code_count, code_index, code_number, code_of, kind_number, row_of};
 
-// A letter and a digit: A is the day-ahead settlement, B the real-time settlement, F everything else.
-#[derive(Clone, Copy)]
+// A letter and a digit: A is the day-ahead settlement, B the real-time settlement, F everything else. Codes are numbered in
+// their order, from 1.
+#[derive(Clone, Copy, Debug, PartialEq, Eq)]
 pub enum Code {
-    A1,
+    A1 = 1,
     A2,
     A3,
     A4,
@@ -21,23 +23,27 @@ pub enum Code {
     F6,
 }
 
+// A number that no code has. An error of its own for each `TryFrom`, as in Rust.
+#[derive(Clone, Copy, Debug, PartialEq, Eq)]
+pub struct UnknownCode(pub u8);
+
 // Who is paid or charged under a code.
-#[derive(Clone, Copy)]
+#[derive(Clone, Copy, Debug, PartialEq, Eq)]
 pub enum PartyKind {
-    Account,
+    Account = 1,
     ExternalSystem,
     WorkingCapitalFund,
     UniversalServiceFund,
 }
 
 // By what an amount is shared. Under `Own` nothing is shared: each party has what its own records come to.
-#[derive(Clone, Copy)]
+#[derive(Clone, Copy, Debug, PartialEq, Eq)]
 pub enum Basis {
-    Own,
-    Purchases,
+    Own = 0,
+    Purchases = 1,
 }
 
-#[derive(Clone, Copy)]
+#[derive(Clone, Copy, Debug, PartialEq, Eq)]
 pub struct CodeRow {
     pub code: Code,
     pub letter: u8,
@@ -152,11 +158,11 @@ pub const CODES: [CodeRow; CODE_COUNT] = [
 ];
 
 // The code at a place of the table of codes.
-pub(crate) fn code_in(index: usize) -> Code
-    requires { index < code_count }
-    ensures { result ≡ code_at index }
+pub(crate) fn code_in(place: usize) -> Code
+    requires { place < code_count }
+    ensures { result ≡ code_at place }
 {
-    CODES[index].code
+    CODES[place].code
 }
 
 impl Code {
@@ -165,25 +171,7 @@ impl Code {
         ensures value { result ≡ code_index self }
         ensures below { result < code_count }
     {
-        self as usize
-    }
-
-    // Codes are numbered in their order, from 1.
-    pub fn number(self) -> u8
-        ensures { result ≡ code_number self }
-    {
-        self as u8 + 1
-    }
-
-    // The code with this number, if there is one.
-    pub fn from_number(number: u8) -> Option<Code>
-        ensures { result ≡ code_of number }
-    {
-        if number >= 1 && number as usize <= CODE_COUNT {
-            Some(code_in(number as usize - 1))
-        } else {
-            None
-        }
+        self as usize - 1
     }
 
     // Letter, digit, kind of party and basis.
@@ -194,26 +182,40 @@ impl Code {
     }
 }
 
-impl PartyKind {
-    pub fn number(self) -> u8
-        ensures { result ≡ kind_number self }
-    {
-        match self {
-            PartyKind::Account => 1,
-            PartyKind::ExternalSystem => 2,
-            PartyKind::WorkingCapitalFund => 3,
-            PartyKind::UniversalServiceFund => 4,
-        }
+impl From<Code> for u8 {
+    ghost from_gives = { λ code number. number ≡ code_number code };
+
+    fn from(code: Code) -> u8 {
+        code as u8
     }
 }
 
-impl Basis {
-    pub fn number(self) -> u8
-        ensures { result ≡ basis_number self }
-    {
-        match self {
-            Basis::Own => 0,
-            Basis::Purchases => 1,
-        }
+// The code with this number, if there is one.
+impl TryFrom<u8> for Code {
+    type Error = UnknownCode;
+
+    ghost try_from_gives = { λ number r. r ≡ ok_or (code_of number) (record { 0 = number }) };
+
+    fn try_from(number: u8) -> Result<Code, UnknownCode> {
+        let unknown = UnknownCode(number);
+        let place = usize::from(number).checked_sub(1).ok_or(unknown)?;
+        let row = CODES.get(place).ok_or(unknown)?;
+        Ok(row.code)
+    }
+}
+
+impl From<PartyKind> for u8 {
+    ghost from_gives = { λ kind number. number ≡ kind_number kind };
+
+    fn from(kind: PartyKind) -> u8 {
+        kind as u8
+    }
+}
+
+impl From<Basis> for u8 {
+    ghost from_gives = { λ basis number. number ≡ basis_number basis };
+
+    fn from(basis: Basis) -> u8 {
+        basis as u8
     }
 }

@@ -1,15 +1,15 @@
-// The parties that amounts are settled with, by number.
-ghost use Rattle.std.specs.Prelude.{◌≡◌, ◌<◌, IfSome, slice_index};
-ghost use Rattle.codes.specs.Parties.{party_at, party_count, party_numbers, party_place, place_by_kind};
+// The parties that amounts are settled with, by number. A party is its number, as ledgers and statements have it.
+ghost use Rattle.std.specs.Prelude.{◌≡◌, ◌<◌, IfSome};
+ghost use Rattle.codes.specs.Parties.{party_at, party_count, party_place};
 
 // Accounts are the parties 1 to 32.
 pub const ACCOUNTS: usize = 32;
 
-const LAST_ACCOUNT: u8 = 32;
+const LAST_ACCOUNT: u8 = ACCOUNTS as u8;
 // External system 1 is party 41, the fourth and last is party 44.
 pub const SYSTEMS: usize = 4;
 
-const FIRST_SYSTEM: u8 = 41;
+pub const FIRST_SYSTEM: u8 = 41;
 
 const LAST_SYSTEM: u8 = 44;
 
@@ -27,46 +27,23 @@ pub const PARTIES: [u8; PARTY_COUNT] = [
     27, 28, 29, 30, 31, 32, 41, 42, 43, 44, 51, 52,
 ];
 
-// The number of the party at a place of that order, of which there are so many.
-pub(crate) fn party_in(place: usize) -> u8
-    requires { place < party_count }
-    ensures { result ≡ slice_index party_numbers place }
-{
-    PARTIES[place]
-}
-
-// The number of the party at a place of that order, if there is one.
+// The number of the party at a place of that order, if there is one: for callers, as the counterpart of `party_place`.
 pub fn party_at(place: usize) -> Option<u8>
     ensures { result ≡ party_at place }
 {
-    if place < PARTY_COUNT {
-        Some(party_in(place))
-    } else {
-        None
-    }
+    PARTIES.get(place).copied()
 }
 
-// The place, reckoned from how many parties of each kind there are.
-fn place_by_kind(party: u8) -> Option<usize>
-    ensures { result ≡ place_by_kind party }
-{
-    if party >= 1 && party <= LAST_ACCOUNT {
-        Some(party as usize - 1)
-    } else if party >= FIRST_SYSTEM && party <= LAST_SYSTEM {
-        Some(ACCOUNTS + (party - FIRST_SYSTEM) as usize)
-    } else if party == WORKING_CAPITAL_FUND {
-        Some(ACCOUNTS + SYSTEMS)
-    } else if party == UNIVERSAL_SERVICE_FUND {
-        Some(ACCOUNTS + SYSTEMS + 1)
-    } else {
-        None
-    }
-}
-
-// The place of the party with this number, if there is one.
+// The place of the party with this number, if there is one: reckoned from how many parties of each kind there are.
 pub fn party_place(party: u8) -> Option<usize>
     ensures value { result ≡ party_place party }
     ensures within { IfSome result (λ i. i < party_count) }
 {
-    place_by_kind(party)
+    match party {
+        1..=LAST_ACCOUNT => Some(usize::from(party) - 1),
+        FIRST_SYSTEM..=LAST_SYSTEM => Some(ACCOUNTS + usize::from(party - FIRST_SYSTEM)),
+        WORKING_CAPITAL_FUND => Some(ACCOUNTS + SYSTEMS),
+        UNIVERSAL_SERVICE_FUND => Some(ACCOUNTS + SYSTEMS + 1),
+        _ => None,
+    }
 }

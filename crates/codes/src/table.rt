@@ -1,22 +1,22 @@
 // The table of amounts, by code and party.
-ghost use Rattle.std.specs.Prelude.{◌≡◌};
-ghost use Rattle.codes.specs.Cells.{Put, cell, cell_at, empty_cells};
+ghost use Rattle.std.specs.Prelude.{◌≡◌, length};
+ghost use Rattle.codes.specs.Cells.{Put, cell, cell_at, cell_count, empty_cells};
 ghost use Rattle.codes.specs.Laws.{NumbersTellCodes, PlacesTellCells, PlacesTellParties};
 
 use crate::code::{CODE_COUNT, Code, code_in};
-use crate::party::{PARTY_COUNT, party_in, party_place};
+use crate::party::{PARTIES, PARTY_COUNT, party_place};
 
 pub const CELLS: usize = CODE_COUNT * PARTY_COUNT;
 
 // An amount in mils for each code and party: the codes in order, and under each the parties in order. Whoever holds a
-// table may write what they like into it.
-#[derive(Drop)]
+// table may write what they like into it. One array, not a row for each code: callers lend and read the cells as one list.
+#[derive(Clone, Copy, Debug, PartialEq, Eq)]
 pub struct Table {
     pub cells: [i64; CELLS],
 }
 
-// The amount of a code and a party.
-#[derive(Clone, Copy)]
+// The amount of a code and a party. `put` takes the three apart: most callers have no such cell, and would make one for the call.
+#[derive(Clone, Copy, Debug, PartialEq, Eq)]
 pub struct TableCell {
     pub code: Code,
     pub party: u8,
@@ -31,14 +31,19 @@ impl Table {
         Table { cells: [0; CELLS] }
     }
 
+    // All cells, in order. How many there are a proof knows only where they are read as a slice.
+    pub fn as_slice(&self) -> &[i64]
+        ensures same { result.now ≡ self.now.cells }
+        ensures count { length self.now.cells ≡ cell_count }
+    {
+        &self.cells
+    }
+
     // The amount of the code and the party; 0 where there is no such party.
     pub fn amount(&self, code: Code, party: u8) -> i64
         ensures { result ≡ cell self.now code party }
     {
-        match party_place(party) {
-            Some(place) => self.cells[code.index() * PARTY_COUNT + place],
-            None => 0,
-        }
+        party_place(party).map_or(0, |place| self.cells[code.index() * PARTY_COUNT + place])
     }
 
     // Puts the amount into the cell of the code and the party; nothing where there is no such party.
@@ -54,15 +59,12 @@ impl Table {
     pub fn cell(&self, place: usize) -> Option<TableCell>
         ensures { result ≡ cell_at self.now place }
     {
-        if place < CELLS {
-            Some(TableCell {
-                code: code_in(place / PARTY_COUNT),
-                party: party_in(place % PARTY_COUNT),
-                amount: self.cells[place],
-            })
-        } else {
-            None
-        }
+        let amount = *self.cells.get(place)?;
+        Some(TableCell {
+            code: code_in(place / PARTY_COUNT),
+            party: PARTIES[place % PARTY_COUNT],
+            amount,
+        })
     }
 
     // 0 in every cell.
@@ -74,10 +76,8 @@ impl Table {
 }
 
 // Codes, parties and cells are told by their numbers and places.
-pub fn places_stand() -> u8
+pub fn places_stand()
     ensures codes { NumbersTellCodes }
     ensures parties { PlacesTellParties }
     ensures cells { PlacesTellCells }
-{
-    0
-}
+{}

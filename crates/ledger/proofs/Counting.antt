@@ -1,5 +1,6 @@
 -- What notes count for under a code and a party.
-use Rattle.std.proofs.Common.{◌≡◌, ℕ, suc, ◌+◌, ◌-◌, ◌<◌, ◌≤◌, Bool, true, false, cond, ◌&&◌, eqb, leb, ◌⊎◌, List, [], ◌∷◌, ◌++◌, length, get_or, take, ℤ, pos, ◌+ℤ◌, ◌-ℤ◌, nat_abs, is_some, Some, None, sym, refl, ap, ◌∙◌, subst, inl, inr, arith}
+use Rattle.std.proofs.Common.{Ok, Err, Option, ◌≡◌, ℕ, suc, ◌+◌, ◌-◌, ◌<◌, ◌≤◌, Bool, true, false, cond, ◌&&◌, eqb, leb, ◌⊎◌, List, [], ◌∷◌, ◌++◌, length, get_or, take, ℤ, pos, ◌+ℤ◌, ◌-ℤ◌, nat_abs, is_some, Some, None, sym, refl, ap, ◌∙◌, subst, inl, inr, arith}
+use Rattle.std.specs.Option.{ok_or}
 use lib.IntN.{+ℤ_idl, +ℤ_idr, +ℤ_assoc}
 use Rattle.std.proofs.lemmas.List.{take_more}
 use Rattle.std.proofs.lemmas.Int.{ints}
@@ -33,6 +34,15 @@ number_of n code e = step (leb 1 n && leb n code_count) refl e
         let is : code ≡ code_at (n - 1) = cc in
         let num = eqb-true (code_number (code_at (n - 1))) (suc (n - 1)) (each_below code_count (λ i. eqb (code_number (code_at i)) (suc i)) numbers (n - 1) (omega arith)) in
         ap code_number is ∙ num ∙ (omega arith)
+
+-- a code that was found, or not, by its number
+pub found : {X E : Type 0} (o : Option X) (e : E) (x : X) → Ok x ≡ ok_or o e → Some x ≡ o
+found None e x h = cc
+found (Some y) e x h = cc
+
+pub lost : {X E : Type 0} (o : Option X) (e z : E) → Err z ≡ ok_or o e → None ≡ o
+lost None e z h = refl
+lost (Some y) e z h = cc
 
 -- a note counts in full under its own code and party, and not at all under another
 pub counted_own : (n : Note) (code : Code) → code_number code ≡ n.code → counted code n.party n ≡ n.amount

@@ -1,5 +1,6 @@
 -- Notes, and when those of a ledger are sound.
 use Rattle.std.specs.Prelude.{ℕ, Bool, true, not, ◌&&◌, ◌||◌, List, [], ◌∷◌, length, take, replicate, ℤ, pos, is_some, ◌==◌, nat_le, nat_lt, unsigned_abs}
+use Rattle.std.specs.List.{list_all}
 use Rattle.codes.specs.Codes.{code_of}
 use Rattle.codes.specs.Parties.{party_place}
 use Rattle.codes.specs.declared.table.Table.{Table}
@@ -51,8 +52,7 @@ abbrev pub sound_notes : List Note → ℕ → ℕ → Bool
 sound_notes ledger count issues = nat_le count (length ledger) && sound_list issues (take count ledger)
 
 abbrev pub all_within : List ℤ → Bool
-all_within [] = true
-all_within (z ∷ zs) = within z && all_within zs
+all_within amounts = list_all within amounts
 
 -- no cell of a table passes the limit
 unfoldable pub within_limit : Table → Bool

@@ -1,5 +1,5 @@
 -- What the steps of an issue ask and promise one another.
-use Rattle.std.specs.Prelude.{◌≡◌, ℕ, ◌<◌, ◌≤◌, true, List, length, take, ℤ, ◌-ℤ◌, slice_index_or, unsigned_abs}
+use Rattle.std.specs.Prelude.{Bool, not, ◌==◌, ◌≡◌, ℕ, ◌<◌, ◌≤◌, true, List, length, take, ℤ, ◌-ℤ◌, slice_index_or, unsigned_abs}
 use Rattle.codes.specs.Cells.{cell}
 use Rattle.codes.specs.Parties.{party_numbers}
 use Rattle.codes.specs.declared.code.Code.{Code}
@@ -30,3 +30,7 @@ pub record AllTakeable (t : Table) (notes : List Note) : Type 0 where
 -- the notes of a code's row in the table of codes
 abbrev pub rows_notes : ℕ → (Code → ℕ → ℤ) → CodeRow → List Note
 rows_notes number f row = row_notes number f party_numbers row.code
+
+-- whether a cell takes a note: an amount of 0 takes none
+abbrev pub takes_note : (Code → ℕ → ℤ) → Code → ℕ → Bool
+takes_note f code party = not (unsigned_abs (f code party) == 0)

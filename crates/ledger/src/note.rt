@@ -7,7 +7,7 @@ pub const AMOUNT_LIMIT: u64 = 100_000_000_000_000_000;
 
 // What an issue adds to the account of a party under a code. The numbers are plain, since a ledger that is handed over
 // may hold unknown ones.
-#[derive(Clone, Copy)]
+#[derive(Clone, Copy, Debug, PartialEq, Eq)]
 pub struct Note {
     pub issue: u8,
     pub code: u8,
@@ -16,7 +16,7 @@ pub struct Note {
 }
 
 impl Note {
-    // An emptied entry, which is no note: its code is none.
+    // An emptied entry, which is no note: its code is none. Its name says more than that of a `Default`.
     pub fn none() -> Note
         ensures { result ≡ no_note }
     {
@@ -28,13 +28,11 @@ impl Note {
         }
     }
 
-    // Does this note come before the other: by issue, then code, then party?
+    // Does this note come before the other: by issue, then code, then party? No derived order, as the amount does not count.
     pub fn precedes(&self, other: &Note) -> bool
         ensures { result ≡ precedes self.now other.now }
     {
-        self.issue < other.issue
-            || self.issue == other.issue
-                && (self.code < other.code || self.code == other.code && self.party < other.party)
+        (self.issue, self.code, self.party) < (other.issue, other.code, other.party)
     }
 }
 
@@ -42,7 +40,5 @@ impl Note {
 pub fn clear(ledger: &mut [Note])
     ensures { ledger.new ≡ cleared ledger.old }
 {
-    for entry in ledger.iter_mut() {
-        *entry = Note::none();
-    }
+    ledger.fill(Note::none());
 }

@@ -1,11 +1,12 @@
 // Whether the notes of a ledger, and the cells of a table, could be those that the calls of a day left.
 ghost use Rattle.std.specs.Prelude.{◌≡◌};
-ghost use Rattle.ledger.specs.Notes.{all_within, known, sound_list, sound_next, sound_note, sound_notes, within, within_limit};
+ghost use Rattle.ledger.specs.Notes.{known, sound_list, sound_next, sound_note, sound_notes, within, within_limit};
 
 use crate::note::{AMOUNT_LIMIT, Note};
 use codes::code::Code;
 use codes::party::party_place;
 use codes::table::Table;
+use std::iter;
 
 fn amount_within(amount: i64) -> bool
     ensures { result ≡ within amount }
@@ -13,10 +14,11 @@ fn amount_within(amount: i64) -> bool
     amount.unsigned_abs() <= AMOUNT_LIMIT
 }
 
+#[tactic(auto, unfolding(crate::specs::Notes::known))]
 fn is_known(note: &Note) -> bool
     ensures { result ≡ known note.now }
 {
-    Code::from_number(note.code).is_some() && party_place(note.party).is_some()
+    Code::try_from(note.code).is_ok() && party_place(note.party).is_some()
 }
 
 fn is_sound(note: &Note, issues: u8) -> bool
@@ -35,37 +37,24 @@ fn is_next(note: &Note, last: &Note, issues: u8) -> bool
 fn are_sound_notes(notes: &[Note], issues: u8) -> bool
     ensures { result ≡ sound_list issues notes.now }
 {
-    let mut last = Note::none();
-    for note in notes {
-        if !is_next(note, &last, issues) {
-            return false;
-        }
-        last = *note;
-    }
-    true
+    iter::once(Note::none())
+        .chain(notes.iter().copied())
+        .zip(notes)
+        .all(|(last, note)| is_next(note, &last, issues))
 }
 
-// Are the first entries of the ledger, as many as `notes`, sound notes of the first `issues` issues?
+// Are the first entries of the ledger, as many as `notes`, sound notes of the first `issues` issues? Ledger and counts come
+// apart here and in calls that rely on the answer, as the memory that callers lend holds them.
 pub fn are_sound(ledger: &[Note], notes: usize, issues: u8) -> bool
     ensures { result ≡ sound_notes ledger.now notes issues }
 {
-    notes <= ledger.len() && are_sound_notes(&ledger[0..notes], issues)
-}
-
-fn all_within(amounts: &[i64]) -> bool
-    ensures { result ≡ all_within amounts.now }
-{
-    for amount in amounts {
-        if !amount_within(*amount) {
-            return false;
-        }
-    }
-    true
+    notes <= ledger.len() && are_sound_notes(&ledger[..notes], issues)
 }
 
 // Does no cell pass the limit?
+#[tactic(auto, unfolding(crate::specs::Notes::within_limit))]
 pub fn is_within(table: &Table) -> bool
     ensures { result ≡ within_limit table.now }
 {
-    all_within(&table.cells)
+    table.cells.iter().all(|amount| amount_within(*amount))
 }

@@ -44,12 +44,9 @@ mod tests {
         }
     }
 
-    // What was answered, or 1,000 and the number of the reason.
-    fn told(answer: Result<usize, Fault>) -> usize {
-        match answer {
-            Ok(n) => n,
-            Err(fault) => 1000 + fault.number() as usize,
-        }
+    // What was answered, or the number of the reason.
+    fn told(answer: Result<usize, Fault>) -> Result<usize, u8> {
+        answer.map_err(|fault| fault.number())
     }
 
     fn note(issue: u8, code: u8, party: u8, amount: i64) -> Note {
@@ -102,14 +99,14 @@ mod tests {
         table.put(Code::A1, 1, 150);
         table.put(Code::F2, 41, -150);
         let mut short = [note(7, 7, 7, 7)];
-        assert_eq!(rt; told(issue_on(&mut short, 0, 0, &table)), 1013);
+        assert_eq!(rt; told(issue_on(&mut short, 0, 0, &table)), Err(13));
         assert_eq!(rt; short[0].amount, 7);
         let mut ledger = [note(7, 7, 7, 7); 4];
-        assert_eq!(rt; told(issue_on(&mut ledger, 0, 0, &table)), 2);
+        assert_eq!(rt; told(issue_on(&mut ledger, 0, 0, &table)), Ok(2));
         assert!(rt; ledger[0].amount == 150 && ledger[1].code == 10 && ledger[1].amount == -150);
-        assert_eq!(rt; told(issue_on(&mut ledger, 2, 1, &table)), 0);
+        assert_eq!(rt; told(issue_on(&mut ledger, 2, 1, &table)), Ok(0));
         table.put(Code::A1, 1, 120);
-        assert_eq!(rt; told(issue_on(&mut ledger, 2, 1, &table)), 1);
+        assert_eq!(rt; told(issue_on(&mut ledger, 2, 1, &table)), Ok(1));
         assert!(rt; ledger[2].issue == 1 && ledger[2].party == 1 && ledger[2].amount == -30);
         assert_eq!(rt; ledger[3].amount, 7);
     }
@@ -125,18 +122,27 @@ mod tests {
             note(1, 10, 41, -1),
         ];
         let mut exact = [7; 60];
-        assert_eq!(rt; told(state_on(&heading, &ledger, 3, 2, 0, &mut exact)), 60);
+        assert_eq!(rt;
+            told(state_on(&heading, &ledger, 3, 2, 0, &mut exact)),
+            Ok(60)
+        );
         assert!(rt; exact == *b"DAY 2019-03-05 24 0\nA1 1 P 150000000\nA1 2 C 100000000\nEND 2\n");
         let mut short = [7; 59];
         assert_eq!(rt;
             told(state_on(&heading, &ledger, 3, 2, 0, &mut short)),
-            1015
+            Err(15)
         );
         assert!(rt; short == [7; 59]);
         let mut wide = [7; 38];
-        assert_eq!(rt; told(state_on(&heading, &ledger, 3, 2, 1, &mut wide)), 36);
+        assert_eq!(rt;
+            told(state_on(&heading, &ledger, 3, 2, 1, &mut wide)),
+            Ok(36)
+        );
         assert!(rt; wide == *b"DAY 2019-03-05 24 1\nF2 41 C 1\nEND 1\n\x07\x07");
-        assert_eq!(rt; told(state_on(&heading, &ledger, 3, 2, 2, &mut wide)), 1005);
+        assert_eq!(rt;
+            told(state_on(&heading, &ledger, 3, 2, 2, &mut wide)),
+            Err(5)
+        );
         Ok(())
     }
 }

@@ -1,5 +1,5 @@
 -- Room that a statement always fits.
-use Rattle.std.proofs.Common.{◌≡◌, ℕ, ◌-◌, ◌*◌, ◌<◌, ◌≤◌, Bool, true, false, cond, T, eqb, leb, List, [], ◌∷◌, ◌++◌, length, take, nat_abs, is_some, Some, None, decimal, Option, refl, ap, arith, length-append, length-take}
+use Rattle.std.proofs.Common.{◌≡◌, ℕ, ◌*◌, ◌<◌, ◌≤◌, Bool, true, false, cond, T, eqb, leb, List, [], ◌∷◌, length, take, nat_abs, is_some, Some, None, decimal, Option, refl, ap, arith, length-append, length-take}
 use Rattle.std.proofs.lemmas.Fmt.{length-decimal-le}
 use Rattle.std.proofs.lemmas.Bool.{and_parts, cond-true, le-leb, leb-true}
 use Rattle.std.specs.List.{flat_map}
@@ -13,7 +13,6 @@ use Rattle.ledger.proofs.Keys.{Sound, few, sound_is}
 use Rattle.text.specs.Written.{length_if_fits}
 use Rattle.statement.specs.Lines.{line_under, note_line}
 use Rattle.statement.specs.Statements.{first_line, last_line, of_issue, statement_room, statement_text}
-use Rattle.statement.specs.Steps.{line_in}
 use Rattle.statement.proofs.Lengths.{length_amount_line, magnitude_is}
 use Rattle.statement.proofs.Stated.{length_text, of_issue_front}
 
@@ -57,7 +56,7 @@ note_room k n e = under (code_of n.code)
         let q = length-decimal-le 18 (nat_abs n.amount) (omega arith) (omega (arith, s.limited)) (omega (arith, s.limited)) in
         omega (arith, length_amount_line code n.party n.amount, p, q, ap (λ z. length (decimal z)) m)
 
-lines_room : (k number : ℕ) (y : Note) (ns : List Note) → sound_after k y ns ≡ true → length (flat_map (line_in number) ns) ≤ 27 * length ns
+lines_room : (k number : ℕ) (y : Note) (ns : List Note) → sound_after k y ns ≡ true → length (flat_map note_line (of_issue number ns)) ≤ 27 * length ns
 lines_room k number y [] e = omega arith
 lines_room k number y (x ∷ xs) e =
     let p = and_parts (sound_next k y x) (sound_after k x xs) e in
@@ -65,9 +64,9 @@ lines_room k number y (x ∷ xs) e =
     let ih = lines_room k number x xs p.1 in
     step (eqb x.issue number) r ih
   where
-    step : (b : Bool) → length (note_line x) ≤ 27 → length (flat_map (line_in number) xs) ≤ 27 * length xs
-        → length (cond b (note_line x) [] ++ flat_map (line_in number) xs) ≤ 27 * length (x ∷ xs)
-    step true r ih = omega (arith, length-append (note_line x) (flat_map (line_in number) xs))
+    step : (b : Bool) → length (note_line x) ≤ 27 → length (flat_map note_line (of_issue number xs)) ≤ 27 * length xs
+        → length (flat_map note_line (cond b (x ∷ of_issue number xs) (of_issue number xs))) ≤ 27 * length (x ∷ xs)
+    step true r ih = omega (arith, length-append (note_line x) (flat_map note_line (of_issue number xs)))
     step false r ih = omega arith
 
 pub text_room : (h : Heading) (k number : ℕ) (ns : List Note) → k < 256 → number < 256 → sound_list k ns ≡ true
@@ -76,14 +75,10 @@ text_room h k number ns small small' e =
     let n = few k ns e in
     omega (arith, length_text h ns number, first_room h number small', lines_room k number no_note ns e, last_room (length (of_issue number ns)) (omega (arith, of_issue_front number ns)))
 
--- `&ledger[0..count]` as the checker reads it
-pub front : (ledger : List Note) (count : ℕ) → take (count - 0) ledger ≡ take count ledger
-front ledger count = ap (λ n. take n ledger) (omega arith)
-
-pub few_in : (ledger : List Note) (count k : ℕ) → k < 256 → sound_notes ledger count k ≡ true → length (take (count - 0) ledger) ≤ 100000000
+pub few_in : (ledger : List Note) (count k : ℕ) → k < 256 → sound_notes ledger count k ≡ true → length (take count ledger) ≤ 100000000
 few_in ledger count k small e =
     let p = and_parts (leb count (length ledger)) (sound_list k (take count ledger)) e in
-    omega (arith, ap length (front ledger count), few k (take count ledger) p.1)
+    omega (arith, few k (take count ledger) p.1)
 
 pub fits_in : (h : Heading) (ledger : List Note) (count k number : ℕ) (buffer : List ℕ) → k < 256 → number < 256 → sound_notes ledger count k ≡ true
     → statement_room count ≤ length buffer → is_some (length_if_fits (statement_text h (take count ledger) number) buffer) ≡ true

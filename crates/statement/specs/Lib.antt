@@ -1,4 +1,3 @@
 pub mod Sides
 pub mod Lines
 pub mod Statements
-pub mod Steps

@@ -1,5 +1,5 @@
 -- The text of an issue's statement.
-use Rattle.std.specs.Prelude.{ℕ, ◌+◌, ◌*◌, ◌/◌, ◌%◌, cond, List, [], ◌∷◌, ◌++◌, length, Err, codes, Result, ◌==◌, nat_lt}
+use Rattle.std.specs.Prelude.{ℕ, ◌+◌, ◌*◌, ◌/◌, ◌%◌, cond, filter, List, [], ◌∷◌, ◌++◌, length, Err, codes, Result, ◌==◌, nat_lt}
 use Rattle.std.specs.List.{flat_map}
 use Rattle.std.specs.Option.{ok_or}
 use Rattle.dayfile.specs.declared.heading.Heading.{Heading}
@@ -23,8 +23,7 @@ day_name heading =
 
 -- the notes of an issue, in the order of the ledger
 abbrev pub of_issue : ℕ → List Note → List Note
-of_issue number [] = []
-of_issue number (n ∷ ns) = cond (n.issue == number) (n ∷ of_issue number ns) (of_issue number ns)
+of_issue number notes = filter (λ n. n.issue == number) notes
 
 -- DAY, date, hours and issue
 unfoldable pub first_line : Heading → ℕ → List ℕ

@@ -1,17 +1,17 @@
 // The statement of an issue.
-ghost use Rattle.std.specs.Prelude.{◌≡◌, ◌+◌, ◌*◌, ◌<◌, ◌≤◌, true, length, take, is_some, is_ok};
+ghost use Rattle.std.specs.Prelude.{◌≡◌, ◌*◌, ◌<◌, ◌≤◌, true, length, take, is_ok};
 ghost use Rattle.std.specs.List.{flat_map};
 ghost use Rattle.ledger.specs.Notes.{sound_notes};
+ghost use Rattle.statement.specs.Lines.{note_line};
 ghost use Rattle.statement.specs.Statements.{day_name, digit_of, first_line, last_line, of_issue, statement_answer, statement_leaves, statement_room, statement_text};
-ghost use Rattle.statement.specs.Steps.{line_in, one_in};
-ghost use Rattle.text.specs.Written.{Wrote, left_if_fits, length_if_fits};
+ghost use Rattle.text.specs.Written.{HasRoom, Puts, left_if_fits, length_if_fits};
 
 use crate::line::{note_line_length, put_note_line};
 use dayfile::heading::Heading;
 use faults::fault::Fault;
 use faults::refusal::Refusal;
 use ledger::note::Note;
-use text::write::{put_line, words_length};
+use text::write::{Writer, words_length};
 
 fn digit(n: u16, unit: u16) -> u8
     requires { 0 < unit }
@@ -20,7 +20,7 @@ fn digit(n: u16, unit: u16) -> u8
     b'0' + (n / unit % 10) as u8
 }
 
-// DAY and the date.
+// DAY and the date, digit by digit: nothing may be allocated, and `write!` into lent bytes would have to be shown to fit.
 fn day_name(heading: &Heading) -> [u8; 14]
     ensures { result ≡ day_name heading.now }
 {
@@ -45,69 +45,34 @@ fn day_name(heading: &Heading) -> [u8; 14]
     ]
 }
 
-// 1 for a note of the issue.
-fn one_in(note: &Note, issue: u8) -> usize
-    ensures value { result ≡ one_in issue note.now }
-    ensures bound { result ≤ 1 }
-{
-    if note.issue == issue { 1 } else { 0 }
-}
-
-// How many notes the issue has.
+// How many notes the issue has. An issue is a number, here and below: one that names no issue is refused.
 fn count_in(notes: &[Note], issue: u8) -> usize
     ensures { result ≡ length (of_issue issue notes.now) }
 {
-    let mut count = 0;
-    for note in notes {
-        count += one_in(note, issue);
-    }
-    count
+    notes.iter().filter(|note| note.issue == issue).count()
 }
 
-fn length_in(note: &Note, issue: u8) -> usize
-    ensures value { result ≡ length (line_in issue note.now) }
-    ensures bound { result ≤ 47 }
-{
-    if note.issue == issue {
-        note_line_length(note)
-    } else {
-        0
-    }
-}
-
-// The note's line, if it is of the issue.
-fn put_in(buffer: &mut [u8], at: usize, note: &Note, issue: u8) -> usize
-    requires { at + length (line_in issue note.now) ≤ length buffer.old }
-    ensures { Wrote buffer.old at (line_in issue note.now) buffer.new result }
-{
-    if note.issue == issue {
-        put_note_line(buffer, at, note)
-    } else {
-        at
-    }
-}
-
+// How long the lines of the issue's notes are. The notes are bounded, here and below, so that the length of the text fits.
 fn lines_length(notes: &[Note], issue: u8) -> usize
     requires { length notes.now ≤ 100000000 }
-    ensures value { result ≡ length (flat_map (line_in issue) notes.now) }
+    ensures value { result ≡ length (flat_map note_line (of_issue issue notes.now)) }
     ensures bound { result ≤ 47 * length notes.now }
 {
+    // Tried: `.map(note_line_length).sum()`. The bound of the sum stayed open.
     let mut total = 0;
-    for note in notes {
-        total += length_in(note, issue);
+    for note in notes.iter().filter(|note| note.issue == issue) {
+        total += note_line_length(note);
     }
     total
 }
 
-fn put_lines(buffer: &mut [u8], at: usize, notes: &[Note], issue: u8) -> usize
-    requires { at + length (flat_map (line_in issue) notes.now) ≤ length buffer.old }
-    ensures { Wrote buffer.old at (flat_map (line_in issue) notes.now) buffer.new result }
+fn put_lines(out: &mut Writer<'_, u8>, notes: &[Note], issue: u8)
+    requires { HasRoom out.old (flat_map note_line (of_issue issue notes.now)) }
+    ensures { Puts out.old out.new (flat_map note_line (of_issue issue notes.now)) }
 {
-    let mut end = at;
-    for note in notes {
-        end = put_in(buffer, end, note, issue);
+    for note in notes.iter().filter(|note| note.issue == issue) {
+        put_note_line(out, note);
     }
-    end
 }
 
 fn first_line_length(heading: &Heading, issue: u8) -> usize
@@ -117,17 +82,12 @@ fn first_line_length(heading: &Heading, issue: u8) -> usize
     14 + words_length(&[u64::from(heading.hours), u64::from(issue)]) + 1
 }
 
-fn put_first_line(buffer: &mut [u8], heading: &Heading, issue: u8) -> usize
-    requires { length (first_line heading.now issue) ≤ length buffer.old }
-    ensures { Wrote buffer.old 0 (first_line heading.now issue) buffer.new result }
+fn put_first_line(out: &mut Writer<'_, u8>, heading: &Heading, issue: u8)
+    requires { HasRoom out.old (first_line heading.now issue) }
+    ensures { Puts out.old out.new (first_line heading.now issue) }
 {
     let name = day_name(heading);
-    put_line(
-        buffer,
-        0,
-        &name,
-        &[u64::from(heading.hours), u64::from(issue)],
-    )
+    out.put_line(&name, &[u64::from(heading.hours), u64::from(issue)]);
 }
 
 fn last_line_length(count: usize) -> usize
@@ -137,14 +97,16 @@ fn last_line_length(count: usize) -> usize
     3 + words_length(&[count as u64]) + 1
 }
 
-fn put_last_line(buffer: &mut [u8], at: usize, count: usize) -> usize
-    requires { at + length (last_line count) ≤ length buffer.old }
-    ensures { Wrote buffer.old at (last_line count) buffer.new result }
+#[tactic(auto, unfolding(crate::specs::Statements::last_line))]
+fn put_last_line(out: &mut Writer<'_, u8>, count: usize)
+    requires { HasRoom out.old (last_line count) }
+    ensures { Puts out.old out.new (last_line count) }
 {
-    put_line(buffer, at, b"END", &[count as u64])
+    out.put_line(b"END", &[count as u64]);
 }
 
-// How long the whole text is.
+// How long the whole text is. Heading, notes and issue stay three parameters: a struct of them lengthens every clause that
+// names one.
 fn text_length(heading: &Heading, notes: &[Note], issue: u8) -> usize
     requires { length notes.now ≤ 100000000 }
     ensures { result ≡ length (statement_text heading.now notes.now issue) }
@@ -155,13 +117,13 @@ fn text_length(heading: &Heading, notes: &[Note], issue: u8) -> usize
 }
 
 // The whole text, for which there is room.
-fn put_text(buffer: &mut [u8], heading: &Heading, notes: &[Note], issue: u8) -> usize
-    requires { length (statement_text heading.now notes.now issue) ≤ length buffer.old }
-    ensures { Wrote buffer.old 0 (statement_text heading.now notes.now issue) buffer.new result }
+fn put_text(out: &mut Writer<'_, u8>, heading: &Heading, notes: &[Note], issue: u8)
+    requires { HasRoom out.old (statement_text heading.now notes.now issue) }
+    ensures { Puts out.old out.new (statement_text heading.now notes.now issue) }
 {
-    let headed = put_first_line(buffer, heading, issue);
-    let listed = put_lines(buffer, headed, notes, issue);
-    put_last_line(buffer, listed, count_in(notes, issue))
+    put_first_line(out, heading, issue);
+    put_lines(out, notes, issue);
+    put_last_line(out, count_in(notes, issue));
 }
 
 // The whole text where the buffer has room for it; else nothing is written.
@@ -173,24 +135,9 @@ fn put_statement(buffer: &mut [u8], heading: &Heading, notes: &[Note], issue: u8
     if text_length(heading, notes, issue) > buffer.len() {
         return None;
     }
-    Some(put_text(buffer, heading, notes, issue))
-}
-
-// The same for the first entries of a ledger.
-fn put_from_ledger(
-    buffer: &mut [u8],
-    heading: &Heading,
-    ledger: &[Note],
-    notes: usize,
-    issues: u8,
-    issue: u8,
-) -> Option<usize>
-    requires { sound_notes ledger.now notes issues ≡ true }
-    ensures answer { result ≡ length_if_fits (statement_text heading.now (take notes ledger.now) issue) buffer.old }
-    ensures after { buffer.new ≡ left_if_fits (statement_text heading.now (take notes ledger.now) issue) buffer.old }
-    ensures fits { statement_room notes ≤ length buffer.old → is_some result ≡ true }
-{
-    put_statement(buffer, heading, &ledger[0..notes], issue)
+    let mut out = Writer { buffer, at: 0 };
+    put_text(&mut out, heading, notes, issue);
+    Some(out.at)
 }
 
 // The text of an issue: its length, or why it was refused. The notes are sound ones.
@@ -208,7 +155,7 @@ pub fn statement(
     ensures fits { issue < issues → statement_room notes ≤ length buffer.old → is_ok result ≡ true }
 {
     if issue < issues {
-        put_from_ledger(buffer, heading, ledger, notes, issues, issue).ok_or(Fault::plain(
+        put_statement(buffer, heading, &ledger[..notes], issue).ok_or(Fault::plain(
             Refusal::BufferTooShort,
         ))
     } else {

@@ -2,7 +2,7 @@
 ghost use Rattle.std.specs.Prelude.{◌≡◌};
 ghost use Rattle.statement.specs.Sides.{side_and_magnitude, side_letter};
 
-#[derive(Clone, Copy)]
+#[derive(Clone, Copy, Debug, PartialEq, Eq)]
 pub enum Side {
     // The party receives the amount.
     Payment,
@@ -11,7 +11,7 @@ pub enum Side {
 }
 
 impl Side {
-    // The letter that stands for the side in a statement.
+    // The letter that stands for the side in a statement. A method: a `u8::from` would not say that it is a letter.
     pub fn letter(self) -> u8
         ensures { result ≡ side_letter self }
     {

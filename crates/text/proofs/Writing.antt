@@ -1,12 +1,12 @@
 -- One piece of text written after another.
-use Rattle.std.proofs.Common.{◌≡◌, ℕ, zero, suc, ◌+◌, ◌/◌, ◌%◌, ◌^◌, ◌<◌, ◌≤◌, true, false, leb, List, [], ◌∷◌, ◌++◌, length, get_or, take, drop, Some, None, decimal, sym, ap, ◌∙◌, append_assoc, add-zero, zero-add, arith, length-append, length-drop, length-take}
-use borrow.Rule.Slice.PartMut.{put_mid}
+use Rattle.std.proofs.Common.{◌≡◌, ℕ, ◌+◌, ◌/◌, ◌%◌, ◌^◌, ◌<◌, ◌≤◌, List, [], ◌++◌, length, get_or, take, drop, decimal, sym, ap, ◌∙◌, append_assoc, arith, length-append, length-drop, length-take}
 use Rattle.std.proofs.lemmas.Fmt.{decimal_step}
-use Rattle.std.proofs.lemmas.List.{drop_at, drop-drop, flat_map_more, length_push, take-append-drop, take_at, take_more}
-use Rattle.std.proofs.lemmas.Bool.{cond-false, cond-true, le-leb, lt-leb}
+use Rattle.std.proofs.lemmas.List.{drop_at, drop-drop, flat_map_more, length_push, take_at, take_more}
+use Rattle.std.proofs.lemmas.List.Folds.{length-flat_map-take}
 use Rattle.std.specs.List.{flat_map}
 use Rattle.text.specs.Lines.{line, words}
-use Rattle.text.specs.Written.{Wrote, left_if_fits, length_if_fits, written}
+use Rattle.text.specs.declared.write.Writer.{Writer}
+use Rattle.text.specs.Written.{HasRoom, Puts, Wrote, written}
 
 length_front : {X : Type 0} (buffer : List X) (at : ℕ) → at ≤ length buffer → length (take at buffer) ≡ at
 length_front buffer at h = rw (length-take at buffer) (omega arith)
@@ -37,46 +37,34 @@ after {X} {buffer} {buffer'} {buffer''} {at} {m} {n} xs ys p q =
       room = omega (arith, length-append xs ys, p.next, q.room);
     }
 
--- nothing written
-pub none : {X : Type 0} (buffer : List X) (at : ℕ) → at ≤ length buffer → Wrote buffer at [] buffer at
-none buffer at h = record { is = sym (ap (λ n. take at buffer ++ drop n buffer) (add-zero at) ∙ take-append-drop at buffer); next = omega arith; room = omega arith }
+-- the same of a writer's pieces
+pub then : {X : Type 0} {a b c : Writer X} (xs ys : List X) → Puts a b xs → Puts b c ys → Puts a c (xs ++ ys)
+then xs ys p q = record { same = q.same ∙ p.same; wrote = after xs ys p.wrote q.wrote }
 
--- a write to a part of the slice
-pub written_mid : (buffer : List ℕ) (at k : ℕ) (xs ys : List ℕ) → ys ≡ xs → k ≡ length xs → put_mid at k buffer ys ≡ written buffer at xs
-written_mid buffer at k xs ys e f =
-    (λ i. take at buffer ++ (e i ++ drop (f i) (drop at buffer))) ∙ ap (λ z. take at buffer ++ (xs ++ z)) (drop-drop (length xs) at buffer)
+-- which keep the memory's length
+pub same_length : {X : Type 0} {a b : Writer X} {xs : List X} → Puts a b xs → length b.buffer.now ≡ length a.buffer.now
+same_length {X} {a} {b} {xs} p = ap length p.wrote.is ∙ length_written a.buffer.now a.at xs p.wrote.room
+
+pub room_after : {X : Type 0} {a b : Writer X} (xs ys : List X) → Puts a b xs → HasRoom a (xs ++ ys) → HasRoom b ys
+room_after {X} {a} {b} xs ys p h = omega (arith, length-append xs ys, p.wrote.next, same_length p)
+
+pub room_front : {X : Type 0} (a : Writer X) (xs ys : List X) → HasRoom a (xs ++ ys) → HasRoom a xs
+room_front a xs ys h = omega (arith, length-append xs ys)
 
 pub length_decimal_step : (n : ℕ) → 10 ≤ n → n < 2 ^ 64 → length (decimal n) ≡ length (decimal (n / 10)) + 1
 length_decimal_step n p q = ap length (decimal_step n p q) ∙ length_push (decimal (n / 10)) (48 + n % 10)
 
 -- a piece for each element: the pieces of one more element
-module _ {X Y : Type 0} (f : X → List Y) (xs : List X) (d : X) where
-  pub pieces_more : (i : ℕ) → i < length xs → flat_map f (take (i + 1) xs) ≡ flat_map f (take i xs) ++ f (get_or xs i d)
-  pieces_more i h = ap (flat_map f) (take_more xs i d h) ∙ sym (flat_map_more f [] (take i xs) (get_or xs i d))
+pieces_more : {X Y : Type 0} (f : X → List Y) (xs : List X) (d : X) (i : ℕ) → i < length xs → flat_map f (take (i + 1) xs) ≡ flat_map f (take i xs) ++ f (get_or xs i d)
+pieces_more f xs d i h = ap (flat_map f) (take_more xs i d h) ∙ sym (flat_map_more f [] (take i xs) (get_or xs i d))
 
-  pub length_pieces_more : (i : ℕ) → i < length xs → length (flat_map f (take (i + 1) xs)) ≡ length (flat_map f (take i xs)) + length (f (get_or xs i d))
-  length_pieces_more i h = ap length (pieces_more i h) ∙ length-append (flat_map f (take i xs)) (f (get_or xs i d))
+-- a writer's pieces, one for each element: there is room for the next, and with it they are the pieces of one more
+module _ {X Y : Type 0} (f : X → List Y) (xs : List X) (d : X) (i : ℕ) (h : i < length xs) {a b : Writer Y} (p : Puts a b (flat_map f (take i xs))) where
+  pub room_for_piece : HasRoom a (flat_map f xs) → HasRoom b (f (get_or xs i d))
+  room_for_piece room = omega (arith, length-flat_map-take f xs i d h, p.wrote.next, same_length p)
 
-pub pieces_front : {X Y : Type 0} (f : X → List Y) (k : ℕ) (xs : List X) → length (flat_map f (take k xs)) ≤ length (flat_map f xs)
-pieces_front f zero xs = omega arith
-pieces_front f (suc k) [] = omega arith
-pieces_front f (suc k) (x ∷ xs) = simp length-append (omega (arith, pieces_front f k xs))
+  pub piece_more : {c : Writer Y} → Puts b c (f (get_or xs i d)) → Puts a c (flat_map f (take (i + 1) xs))
+  piece_more q = rw (pieces_more f xs d i h) (then (flat_map f (take i xs)) (f (get_or xs i d)) p q)
 
 pub length_line : (name numbers : List ℕ) → length (line name numbers) ≡ length name + length (words numbers) + 1
 length_line name numbers = simp length-append (omega arith)
-
--- a whole text written at the front
-pub fits : (text buffer buffer' : List ℕ) (n : ℕ) → Wrote buffer 0 text buffer' n → (Some n ≡ length_if_fits text buffer) × (buffer' ≡ left_if_fits text buffer)
-fits text buffer buffer' n w =
-    let yes : leb (length text) (length buffer) ≡ true = le-leb (length text) (length buffer) (omega (arith, w.room)) in (
-      ap Some (w.next ∙ zero-add (length text)) ∙ sym (cond-true (leb (length text) (length buffer)) (Some (length text)) None yes),
-      w.is ∙ ap (λ k. text ++ drop k buffer) (zero-add (length text)) ∙ sym (cond-true (leb (length text) (length buffer)) (text ++ drop (length text) buffer) buffer yes),
-    )
-
--- a text that is too long
-pub too_long : (text buffer : List ℕ) → length buffer < length text → (None ≡ length_if_fits text buffer) × (buffer ≡ left_if_fits text buffer)
-too_long text buffer h =
-    let nay : leb (length text) (length buffer) ≡ false = lt-leb (length text) (length buffer) h in (
-      sym (cond-false (leb (length text) (length buffer)) (Some (length text)) None nay),
-      sym (cond-false (leb (length text) (length buffer)) (text ++ drop (length text) buffer) buffer nay),
-    )

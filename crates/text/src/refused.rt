@@ -22,7 +22,7 @@ pub fn put_refused(buffer: &mut [u8], fault: &Fault) -> Option<usize>
         b"REFUSED",
         &[
             u64::from(fault.number()),
-            u64::from(fault.layer().number()),
+            u64::from(u8::from(fault.layer())),
             place.offset as u64,
             u64::from(place.account),
             u64::from(place.node),

@@ -1,27 +1,68 @@
-// Pieces of text, each written after the last. A function here asks for room, and answers where its text ends.
+// Pieces written one after another into memory that a caller lends.
 ghost use Rattle.std.specs.Prelude.{◌≡◌, ◌+◌, ◌*◌, ◌≤◌, true, length, is_some, decimal};
 ghost use Rattle.text.specs.Lines.{line, word, words};
-ghost use Rattle.text.specs.Written.{Wrote, left_if_fits, length_if_fits};
+ghost use Rattle.text.specs.Written.{HasRoom, Puts, Wrote, left_if_fits, length_if_fits};
 
-pub fn put_bytes(buffer: &mut [u8], at: usize, bytes: &[u8]) -> usize
-    requires { at + length bytes.now ≤ length buffer.old }
-    ensures { Wrote buffer.old at bytes.now buffer.new result }
-{
-    let end = at + bytes.len();
-    buffer[at..end].copy_from_slice(bytes);
-    end
+// Where the next piece goes in a lent slice. A method here asks for room. Digits are put by hand: `write!` would be no
+// plainer, as each piece would have to be shown to fit.
+#[derive(Drop)]
+pub struct Writer<'a, T> {
+    pub buffer: &'a mut [T],
+    pub at: usize,
 }
 
-// The number in decimal digits, with no leading zero.
-pub fn put_decimal(buffer: &mut [u8], at: usize, n: u64) -> usize
-    requires { at + length (decimal n) ≤ length buffer.old }
-    ensures { Wrote buffer.old at (decimal n) buffer.new result }
-{
-    if n >= 10 {
-        let end = put_decimal(buffer, at, n / 10);
-        put_bytes(buffer, end, &[b'0' + (n % 10) as u8])
-    } else {
-        put_bytes(buffer, at, &[b'0' + n as u8])
+impl<T: Copy> Writer<'_, T> {
+    pub fn put(&mut self, items: &[T])
+        requires { HasRoom self.old items.now }
+        ensures { Puts self.old self.new items.now }
+    {
+        let end = self.at + items.len();
+        self.buffer[self.at..end].copy_from_slice(items);
+        self.at = end;
+    }
+}
+
+impl Writer<'_, u8> {
+    // The number in decimal digits, with no leading zero.
+    pub fn put_decimal(&mut self, n: u64)
+        requires { HasRoom self.old (decimal n) }
+        ensures { Puts self.old self.new (decimal n) }
+    {
+        if n >= 10 {
+            self.put_decimal(n / 10);
+            self.put(&[b'0' + (n % 10) as u8]);
+        } else {
+            self.put(&[b'0' + n as u8]);
+        }
+    }
+
+    // A space and the number.
+    pub fn put_word(&mut self, n: u64)
+        requires { HasRoom self.old (word n) }
+        ensures { Puts self.old self.new (word n) }
+    {
+        self.put(b" ");
+        self.put_decimal(n);
+    }
+
+    // A space and the number, for each of the numbers.
+    pub fn put_words(&mut self, numbers: &[u64])
+        requires { HasRoom self.old (words numbers.now) }
+        ensures { Puts self.old self.new (words numbers.now) }
+    {
+        for n in numbers {
+            self.put_word(*n);
+        }
+    }
+
+    // A name, the numbers after it, and the end of the line.
+    pub fn put_line(&mut self, name: &[u8], numbers: &[u64])
+        requires { HasRoom self.old (line name.now numbers.now) }
+        ensures { Puts self.old self.new (line name.now numbers.now) }
+    {
+        self.put(name);
+        self.put_words(numbers);
+        self.put(b"\n");
     }
 }
 
@@ -37,47 +78,12 @@ pub fn decimal_length(n: u64) -> usize
     }
 }
 
-// A space and the number.
-pub fn put_word(buffer: &mut [u8], at: usize, n: u64) -> usize
-    requires { at + length (word n) ≤ length buffer.old }
-    ensures { Wrote buffer.old at (word n) buffer.new result }
-{
-    let after = put_bytes(buffer, at, b" ");
-    put_decimal(buffer, after, n)
-}
-
-// A space and the number, for each of the numbers.
-pub fn put_words(buffer: &mut [u8], at: usize, numbers: &[u64]) -> usize
-    requires { at + length (words numbers.now) ≤ length buffer.old }
-    ensures { Wrote buffer.old at (words numbers.now) buffer.new result }
-{
-    let mut end = at;
-    for n in numbers {
-        end = put_word(buffer, end, *n);
-    }
-    end
-}
-
 pub fn words_length(numbers: &[u64]) -> usize
     requires { length numbers.now ≤ 1000000 }
     ensures value { result ≡ length (words numbers.now) }
     ensures bound { result ≤ 21 * length numbers.now }
 {
-    let mut total = 0;
-    for n in numbers {
-        total += decimal_length(*n) + 1;
-    }
-    total
-}
-
-// A name, the numbers after it, and the end of the line.
-pub fn put_line(buffer: &mut [u8], at: usize, name: &[u8], numbers: &[u64]) -> usize
-    requires { at + length (line name.now numbers.now) ≤ length buffer.old }
-    ensures { Wrote buffer.old at (line name.now numbers.now) buffer.new result }
-{
-    let named = put_bytes(buffer, at, name);
-    let numbered = put_words(buffer, named, numbers);
-    put_bytes(buffer, numbered, b"\n")
+    numbers.iter().map(|n| decimal_length(*n) + 1).sum()
 }
 
 // One line alone, where the buffer has room for it; else nothing is written.
@@ -91,5 +97,7 @@ pub fn put_only_line(buffer: &mut [u8], name: &[u8], numbers: &[u64]) -> Option<
     if name.len() + words_length(numbers) + 1 > buffer.len() {
         return None;
     }
-    Some(put_line(buffer, 0, name, numbers))
+    let mut out = Writer { buffer, at: 0 };
+    out.put_line(name, numbers);
+    Some(out.at)
 }

@@ -1,31 +1,23 @@
-use Rattle.std.proofs.Common.{sym, ◌∙◌, subst, arith, w64}
-use Rattle.std.proofs.lemmas.List.{take_all}
+use Rattle.std.proofs.Common.{get_or, sym, ◌∙◌, subst, w64}
 use Rattle.std.proofs.lemmas.Int.{to_z-of_z}
 use Rattle.codes.specs.Cells.{cell}
-use Rattle.text.specs.Written.{Wrote}
-use Rattle.text.proofs.Writing.{none}
-use Rattle.ledger.specs.Issues.{row_notes}
-use Rattle.ledger.proofs.Adding.{room_step, row_none, wrote_step}
+use Rattle.text.specs.Written.{HasRoom, Puts}
+use Rattle.text.proofs.Writing.{piece_more, room_for_piece}
+use Rattle.ledger.specs.Issues.{note_for, row_notes}
 use Rattle.ledger.proofs.issue.put_row.Goals as goal
 
-pub loop-party-init : goal.loop-party-init
-loop-party-init c =
-    subst (λ ns. Wrote c.args.ledger.now c.args.at ns c.args.ledger.now c.args.at) (sym (row_none c.args.issue (cell c.args.rest.now) c.args.code))
-    (none c.args.ledger.now c.args.at (omega arith))
-
-pub put_note-end-requires : goal.put_note-end-requires
-put_note-end-requires c =
-    room_step c.args.issue (cell c.args.rest.now) c.args.parties.now c.args.code c.loop-party.party-index c.loop-party-test.true _
-    (to_z-of_z w64 c.amount.result (record { sfits = c.amount.type_inv }) ∙ c.amount.ensures) c.args.ledger.now c.loop-party.ledger c.args.at c.loop-party.end
-    c.loop-party.invariant c.requires c.loop-party.auto.ledger
+pub put_note-requires : goal.put_note-requires
+unfolding row_notes
+put_note-requires c =
+    let ps = c.args.parties.now in
+    let i = c.loop-party.party-index in
+    subst (λ z. HasRoom c.loop-party.out (note_for c.args.issue c.args.code (get_or ps i 0) z)) (sym (to_z-of_z w64 c.amount.result (record { sfits = c.amount.type_inv }) ∙ c.amount.ensures))
+    (room_for_piece (λ party. note_for c.args.issue c.args.code party (cell c.args.rest.now c.args.code party)) ps 0 i c.loop-party-test.true c.loop-party.invariant c.requires)
 
 pub loop-party-preserved : goal.loop-party-preserved
+unfolding row_notes
 loop-party-preserved c =
-    wrote_step c.args.issue (cell c.args.rest.now) c.args.parties.now c.args.code c.loop-party.party-index c.loop-party-test.true _
-    (to_z-of_z w64 c.amount.result (record { sfits = c.amount.type_inv }) ∙ c.amount.ensures) c.args.ledger.now c.loop-party.ledger c.put_note-end.new.ledger c.args.at
-    c.loop-party.end c.put_note-end.result c.loop-party.invariant c.put_note-end.ensures
-
-pub returns : goal.returns
-returns c =
-    subst (λ ps. Wrote c.args.ledger.now c.args.at (row_notes c.args.issue (cell c.args.rest.now) ps c.args.code) c.loop-party.ledger c.loop-party.end)
-    (take_all c.loop-party.party-index c.args.parties.now c.loop-party-test.false) c.loop-party.invariant
+    let ps = c.args.parties.now in
+    let i = c.loop-party.party-index in
+    piece_more (λ party. note_for c.args.issue c.args.code party (cell c.args.rest.now c.args.code party)) ps 0 i c.loop-party-test.true c.loop-party.invariant
+    (subst (λ z. Puts c.loop-party.out c.put_note.new.out (note_for c.args.issue c.args.code (get_or ps i 0) z)) (to_z-of_z w64 c.amount.result (record { sfits = c.amount.type_inv }) ∙ c.amount.ensures) c.put_note.ensures)

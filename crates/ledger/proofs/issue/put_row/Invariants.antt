@@ -1,8 +1,8 @@
 use Rattle.std.proofs.Common.{take}
 use Rattle.codes.specs.Cells.{cell}
-use Rattle.text.specs.Written.{Wrote}
+use Rattle.text.specs.Written.{Puts}
 use Rattle.ledger.specs.Issues.{row_notes}
 use Rattle.ledger.proofs.issue.put_row.Given as goal
 
 abbrev pub invariant-loop-party : goal.invariant-loop-party
-invariant-loop-party l = Wrote l.initial.ledger l.at (row_notes l.issue (cell l.rest) (take l.party-index l.parties) l.code) l.ledger l.end
+invariant-loop-party l = Puts l.initial.out l.out (row_notes l.issue (cell l.rest) (take l.party-index l.parties) l.code)

@@ -1,7 +1,7 @@
-use Rattle.std.proofs.Common.{◌≡◌, ◌*◌, ◌≤◌, length, take}
+use Rattle.std.proofs.Common.{◌≡◌, ◌*◌, ◌≤◌, length}
 use Rattle.std.specs.List.{flat_map}
-use Rattle.statement.specs.Steps.{line_in}
+use Rattle.statement.specs.Lines.{note_line}
 use Rattle.statement.proofs.issued.lines_length.Given as goal
 
 abbrev pub invariant-loop-note : goal.invariant-loop-note
-invariant-loop-note l = (l.total ≡ length (flat_map (line_in l.issue) (take l.note-index l.notes))) × (l.total ≤ 47 * l.note-index)
+invariant-loop-note l = (l.total ≡ length (flat_map (λ n. note_line n.now) l.yielded)) × (l.total ≤ 47 * length l.yielded)

@@ -1,48 +1,73 @@
-use Rattle.std.proofs.Common.{ℕ, ◌+◌, List, [], ◌∷◌, ◌++◌, length, decimal, ap, ◌∙◌, subst, arith, w64}
+use Rattle.std.proofs.Common.{◌+◌, [], ◌∷◌, ◌++◌, refl, ap, ◌∙◌, subst, w64}
 use Rattle.std.proofs.lemmas.Int.{to_z-of_z}
-use Rattle.codes.specs.declared.code.CodeRow.{CodeRow}
 use Rattle.text.specs.Lines.{word}
-use Rattle.text.specs.Written.{Wrote}
-use Rattle.text.proofs.Writing.{after}
-use Rattle.statement.specs.Lines.{amount_line}
+use Rattle.text.specs.Written.{Puts}
+use Rattle.text.proofs.Writing.{room_after, room_front, then}
 use Rattle.statement.specs.Sides.{side_and_magnitude, side_letter}
-use Rattle.statement.specs.declared.side.Side.{Side}
-use Rattle.statement.proofs.Lengths.{length_amount_line}
+use Rattle.statement.proofs.Stated.{line_parts, line_room}
 use Rattle.statement.proofs.line.put_amount_line.Goals as goal
 
-pub put_bytes-named-requires : goal.put_bytes-named-requires
-put_bytes-named-requires c = omega (arith, length_amount_line c.args.code c.args.party c.args.amount)
-
-pub put_word-numbered-requires : goal.put_word-numbered-requires
-put_word-numbered-requires c =
-    omega (arith, length_amount_line c.args.code c.args.party c.args.amount, ap (λ k. length (decimal k)) c.from.ensures, c.put_bytes-named.ensures.next, c.put_bytes-named.auto.buffer)
-
-pub put_bytes-sided-requires : goal.put_bytes-sided-requires
-put_bytes-sided-requires c =
-    omega (arith, length_amount_line c.args.code c.args.party c.args.amount, ap (λ k. length (decimal k)) c.from.ensures, c.put_bytes-named.ensures.next, c.put_bytes-named.auto.buffer, c.put_word-numbered.ensures.next, c.put_word-numbered.auto.buffer)
-
-pub put_word-measured-requires : goal.put_word-measured-requires
-put_word-measured-requires c =
+pub put-requires : goal.put-requires
+put-requires c =
+    let row = c.row-row.result in
+    let a = c.side_and_magnitude-side.result in
     let s = c.side_and_magnitude-side.ensures ∙ ap side_and_magnitude (to_z-of_z w64 c.args.amount c.ranges.amount) in
-    omega (arith, length_amount_line c.args.code c.args.party c.args.amount, ap (λ k. length (decimal k)) c.from.ensures, ap (λ (a : Side × ℕ). length (decimal a.1)) s, c.put_bytes-named.ensures.next, c.put_bytes-named.auto.buffer, c.put_word-numbered.ensures.next, c.put_word-numbered.auto.buffer, c.put_bytes-sided.ensures.next, c.put_bytes-sided.auto.buffer)
+    room_front c.args.out.now (row.letter ∷ (48 + row.digit) ∷ []) (word c.args.party ++ ((32 ∷ side_letter a.0 ∷ []) ++ (word a.1 ++ (10 ∷ []))))
+    (line_room c.args.out.now c.args.code c.args.party c.args.amount row c.args.party (side_letter a.0) a c.row-row.ensures refl s refl c.requires)
 
-pub put_bytes-requires : goal.put_bytes-requires
-put_bytes-requires c =
+pub put_word-requires : goal.put_word-requires
+put_word-requires c =
+    let row = c.row-row.result in
+    let a = c.side_and_magnitude-side.result in
     let s = c.side_and_magnitude-side.ensures ∙ ap side_and_magnitude (to_z-of_z w64 c.args.amount c.ranges.amount) in
-    omega (arith, length_amount_line c.args.code c.args.party c.args.amount, ap (λ k. length (decimal k)) c.from.ensures, ap (λ (a : Side × ℕ). length (decimal a.1)) s, c.put_bytes-named.ensures.next, c.put_bytes-named.auto.buffer, c.put_word-numbered.ensures.next, c.put_word-numbered.auto.buffer, c.put_bytes-sided.ensures.next, c.put_bytes-sided.auto.buffer, c.put_word-measured.ensures.next, c.put_word-measured.auto.buffer)
+    let rest = (32 ∷ side_letter a.0 ∷ []) ++ (word a.1 ++ (10 ∷ [])) in
+    room_front c.put.new.self (word c.from.result) rest
+    (room_after (row.letter ∷ (48 + row.digit) ∷ []) (word c.from.result ++ rest) c.put.ensures
+    (line_room c.args.out.now c.args.code c.args.party c.args.amount row c.from.result (side_letter a.0) a c.row-row.ensures c.from.ensures s refl c.requires))
+
+pub put-requires-2 : goal.put-requires-2
+put-requires-2 c =
+    let row = c.row-row.result in
+    let a = c.side_and_magnitude-side.result in
+    let s = c.side_and_magnitude-side.ensures ∙ ap side_and_magnitude (to_z-of_z w64 c.args.amount c.ranges.amount) in
+    let side = 32 ∷ c.letter.result ∷ [] in
+    room_front c.put_word.new.self side (word a.1 ++ (10 ∷ []))
+    (room_after (word c.from.result) (side ++ (word a.1 ++ (10 ∷ []))) c.put_word.ensures
+    (room_after (row.letter ∷ (48 + row.digit) ∷ []) (word c.from.result ++ (side ++ (word a.1 ++ (10 ∷ [])))) c.put.ensures
+    (line_room c.args.out.now c.args.code c.args.party c.args.amount row c.from.result c.letter.result a c.row-row.ensures c.from.ensures s c.letter.ensures c.requires)))
+
+pub put_word-requires-2 : goal.put_word-requires-2
+put_word-requires-2 c =
+    let row = c.row-row.result in
+    let a = c.side_and_magnitude-side.result in
+    let s = c.side_and_magnitude-side.ensures ∙ ap side_and_magnitude (to_z-of_z w64 c.args.amount c.ranges.amount) in
+    let side = 32 ∷ c.letter.result ∷ [] in
+    room_front c.put-2.new.self (word a.1) (10 ∷ [])
+    (room_after side (word a.1 ++ (10 ∷ [])) c.put-2.ensures
+    (room_after (word c.from.result) (side ++ (word a.1 ++ (10 ∷ []))) c.put_word.ensures
+    (room_after (row.letter ∷ (48 + row.digit) ∷ []) (word c.from.result ++ (side ++ (word a.1 ++ (10 ∷ [])))) c.put.ensures
+    (line_room c.args.out.now c.args.code c.args.party c.args.amount row c.from.result c.letter.result a c.row-row.ensures c.from.ensures s c.letter.ensures c.requires))))
+
+pub put-requires-3 : goal.put-requires-3
+put-requires-3 c =
+    let row = c.row-row.result in
+    let a = c.side_and_magnitude-side.result in
+    let s = c.side_and_magnitude-side.ensures ∙ ap side_and_magnitude (to_z-of_z w64 c.args.amount c.ranges.amount) in
+    let side = 32 ∷ c.letter.result ∷ [] in
+    room_after (word a.1) (10 ∷ []) c.put_word-2.ensures
+    (room_after side (word a.1 ++ (10 ∷ [])) c.put-2.ensures
+    (room_after (word c.from.result) (side ++ (word a.1 ++ (10 ∷ []))) c.put_word.ensures
+    (room_after (row.letter ∷ (48 + row.digit) ∷ []) (word c.from.result ++ (side ++ (word a.1 ++ (10 ∷ [])))) c.put.ensures
+    (line_room c.args.out.now c.args.code c.args.party c.args.amount row c.from.result c.letter.result a c.row-row.ensures c.from.ensures s c.letter.ensures c.requires))))
 
 pub returns : goal.returns
-unfolding amount_line
 returns c =
+    let row = c.row-row.result in
+    let a = c.side_and_magnitude-side.result in
+    let side = 32 ∷ c.letter.result ∷ [] in
     let s = c.side_and_magnitude-side.ensures ∙ ap side_and_magnitude (to_z-of_z w64 c.args.amount c.ranges.amount) in
-    let l = c.letter.ensures ∙ ap (λ (a : Side × ℕ). side_letter a.0) s in
-    let row : CodeRow = c.row-row.result in
-    let party : ℕ = c.from.result in
-    let magnitude : ℕ = c.side_and_magnitude-side.result.1 in
-    let name : List ℕ = row.letter ∷ (48 + row.digit) ∷ [] in
-    let side : List ℕ = 32 ∷ c.letter.result ∷ [] in
-    subst (λ z. Wrote c.args.buffer.now c.args.at z c.put_bytes.new.buffer c.put_bytes.result)
-    (λ i. ((c.row-row.ensures i).letter ∷ (48 + (c.row-row.ensures i).digit) ∷ []) ++ (word (c.from.ensures i) ++ ((32 ∷ l i ∷ []) ++ (word (s i).1 ++ (10 ∷ [])))))
-    (after name (word party ++ (side ++ (word magnitude ++ (10 ∷ [])))) c.put_bytes-named.ensures
-    (after (word party) (side ++ (word magnitude ++ (10 ∷ []))) c.put_word-numbered.ensures
-    (after side (word magnitude ++ (10 ∷ [])) c.put_bytes-sided.ensures (after (word magnitude) (10 ∷ []) c.put_word-measured.ensures c.put_bytes.ensures))))
+    subst (λ z. Puts c.args.out.now c.put-3.new.self z)
+    (line_parts c.args.code c.args.party c.args.amount row c.from.result c.letter.result a c.row-row.ensures c.from.ensures s c.letter.ensures)
+    (then (row.letter ∷ (48 + row.digit) ∷ []) (word c.from.result ++ (side ++ (word a.1 ++ (10 ∷ [])))) c.put.ensures
+    (then (word c.from.result) (side ++ (word a.1 ++ (10 ∷ []))) c.put_word.ensures
+    (then side (word a.1 ++ (10 ∷ [])) c.put-2.ensures (then (word a.1) (10 ∷ []) c.put_word-2.ensures c.put-3.ensures))))

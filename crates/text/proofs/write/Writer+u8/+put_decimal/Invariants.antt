@@ -1,4 +1,4 @@
-use Rattle.text.proofs.write.+put_decimal.Given as goal
+use Rattle.text.proofs.write.Writer+u8.+put_decimal.Given as goal
 
 abbrev pub decreases-put_decimal : goal.decreases-put_decimal
 decreases-put_decimal l = l.n
