@@ -1,5 +1,5 @@
 -- The text of a sheet.
-use Rattle.std.specs.Prelude.{ℕ, cond, List, [], ◌++◌, map, Some, None, sum_by, Option, ◌==◌, unsigned_abs}
+use Rattle.std.specs.Prelude.{Bool, false, not, ℕ, cond, List, [], ◌++◌, map, Some, None, sum_by, Option, ◌==◌, unsigned_abs}
 use Rattle.std.specs.List.{range_with_len, flat_map}
 use Rattle.codes.specs.Cells.{cell_at, cell_count}
 use Rattle.codes.specs.declared.table.Table.{Table}
@@ -16,6 +16,11 @@ line_of (Some c) = cond (unsigned_abs c.amount == 0) [] (amount_line c.code c.pa
 abbrev pub one_of : Option TableCell → ℕ
 one_of None = 0
 one_of (Some c) = cond (unsigned_abs c.amount == 0) 0 1
+
+-- whether a cell has a line
+abbrev pub has_line : Option TableCell → Bool
+has_line None = false
+has_line (Some c) = not (unsigned_abs c.amount == 0)
 
 -- the first cells
 abbrev pub first_cells : ℕ → Table → List (Option TableCell)

@@ -1,42 +1,30 @@
--- Lines and words. leading counts the bytes at the front that pass a test.
-use Rattle.std.specs.Prelude.{ℕ, zero, suc, Bool, cond, not, ◌||◌, List, [], ◌∷◌, length, take, drop, ◌==◌}
-use Rattle.std.specs.List.{prefix_len}
-use Rattle.script.specs.declared.words.Stop.{Stop}
-use Rattle.script.specs.declared.words.Stop.TheVariants.{LineEnd, Comment, Blank, Letter}
+-- Lines and words.
+use Rattle.std.specs.Prelude.{ℕ, zero, suc, Bool, cond, not, ◌||◌, List, [], ◌∷◌, length, drop, ◌==◌}
+use Rattle.std.specs.List.{position_or_len, before_first, after_first}
 
 -- space, tab and carriage return
 abbrev pub blank : ℕ → Bool
 blank b = b == 32 || (b == 9 || b == 13)
 
--- byte 10 ends a line, byte 35 begins a comment
-abbrev pub stops : Stop → ℕ → Bool
-stops LineEnd b = b == 10
-stops Comment b = b == 35
-stops Blank b = blank b
-stops Letter b = not (blank b)
-
--- how many bytes stand before the stop
-abbrev pub before : Stop → List ℕ → ℕ
-before stop text = prefix_len (λ b. not (stops stop b)) text
-
+-- byte 10 ends a line
 abbrev pub first_line : List ℕ → List ℕ
-first_line text = take (before LineEnd text) text
+first_line text = before_first (λ b. b == 10) text
 
 abbrev pub after_line : List ℕ → List ℕ
-after_line text = drop (suc (before LineEnd text)) text
+after_line text = after_first (λ b. b == 10) text
 
--- a line without its comment
+-- a line without its comment, which byte 35 begins
 abbrev pub uncommented : List ℕ → List ℕ
-uncommented line = take (before Comment line) line
+uncommented line = before_first (λ b. b == 35) line
 
 abbrev pub unblanked : List ℕ → List ℕ
-unblanked text = drop (before Letter text) text
+unblanked text = drop (position_or_len (λ b. not (blank b)) text) text
 
 abbrev pub first_word : List ℕ → List ℕ
-first_word text = take (before Blank (unblanked text)) (unblanked text)
+first_word text = before_first blank (unblanked text)
 
 abbrev pub after_word : List ℕ → List ℕ
-after_word text = drop (before Blank (unblanked text)) (unblanked text)
+after_word text = drop (position_or_len blank (unblanked text)) (unblanked text)
 
 -- the words of a text, one after the other, as many as the first number at most
 abbrev pub words_within : ℕ → List ℕ → List (List ℕ)

@@ -1,6 +1,6 @@
 // What a line of a script asks for.
 ghost use Rattle.std.specs.Prelude.{◌≡◌};
-ghost use Rattle.script.specs.Digits.{decimal_number};
+ghost use Rattle.script.specs.Commands.{call_of, command_of, reading, room, rule};
 
 use crate::decimal::{byte, number};
 use crate::name::{Name, name_of};
@@ -22,7 +22,7 @@ pub enum Command<'a> {
     Call(Call<'a>),
 }
 
-// A call on a day.
+// A call on a day. Not a `Step`: that one lends its rule.
 #[derive(Clone, Copy)]
 pub enum Call<'a> {
     Enter(&'a [u8]),
@@ -36,30 +36,33 @@ pub enum Call<'a> {
 }
 
 fn room(word: &[u8]) -> Option<usize>
-    ensures { result ≡ decimal_number 1000000 word.now }
+    ensures { result ≡ room word.entry }
 {
-    match number(word, MOST_ROOM) {
-        Some(room) => Some(room as usize),
-        None => None,
-    }
+    usize::try_from(number(word, MOST_ROOM)?).ok()
 }
 
-fn rule(word: &[u8]) -> Option<Rule> {
-    Rule::from_number(byte(word)?)
+fn rule(word: &[u8]) -> Option<Rule>
+    ensures { result ≡ rule word.entry }
+{
+    Rule::try_from(byte(word)?).ok()
 }
 
-fn reading(account: &[u8], node: &[u8], hour: &[u8], class: &[u8], kwh: &[u8]) -> Option<Reading> {
+fn reading(account: &[u8], node: &[u8], hour: &[u8], class: &[u8], kwh: &[u8]) -> Option<Reading>
+    ensures { result ≡ reading account.entry node.entry hour.entry class.entry kwh.entry }
+{
     Some(Reading {
         account: byte(account)?,
         node: byte(node)?,
         hour: byte(hour)?,
         class: byte(class)?,
-        real_time: number(kwh, 4_294_967_295)? as u32,
+        real_time: u32::try_from(number(kwh, u64::from(u32::MAX))?).ok()?,
     })
 }
 
 // The call on a day that a name and its arguments ask for, if they do.
-fn call_of<'a>(name: Name, arguments: &[&'a [u8]]) -> Option<Call<'a>> {
+fn call_of<'a>(name: Name, arguments: &[&'a [u8]]) -> Option<Call<'a>>
+    ensures { result ≡ call_of name arguments.now }
+{
     match (name, arguments) {
         (Name::Enter, [bytes]) => Some(Call::Enter(bytes)),
         (Name::Close, [bytes]) => Some(Call::Close(bytes)),
@@ -79,7 +82,9 @@ fn call_of<'a>(name: Name, arguments: &[&'a [u8]]) -> Option<Call<'a>> {
 }
 
 // What the words of a line ask for; none, where they are no line of a script.
-pub fn command_of<'a>(words: &[&'a [u8]]) -> Option<Command<'a>> {
+pub fn command_of<'a>(words: &[&'a [u8]]) -> Option<Command<'a>>
+    ensures { result ≡ command_of words.now }
+{
     let [first, arguments @ ..] = words else {
         return None;
     };

@@ -3,7 +3,8 @@ ghost use Rattle.std.specs.Prelude.{◌≡◌, ◌≤◌};
 ghost use Rattle.std.specs.Char.{digit_value};
 ghost use Rattle.script.specs.Digits.{in_digits};
 
-// What a digit stands for; 36 where it is none.
+// What a digit stands for; 36 where it is none, which is no digit of any base. Public for any base: callers may read other
+// digits than decimal ones.
 pub fn digit_value(byte: u8) -> u8
     ensures value { result ≡ digit_value byte }
     ensures bound { result ≤ 36 }
@@ -20,10 +21,5 @@ pub fn digit_value(byte: u8) -> u8
 pub fn are_digits(word: &[u8], base: u8) -> bool
     ensures { result ≡ in_digits base word.now }
 {
-    for byte in word {
-        if digit_value(*byte) >= base {
-            return false;
-        }
-    }
-    true
+    word.iter().all(|byte| digit_value(*byte) < base)
 }

@@ -4,7 +4,7 @@
 pub mod command;
 pub mod decimal;
 pub mod digits;
-pub mod hex;
+pub mod hexadecimal;
 pub mod name;
 pub mod sheet;
 pub mod words;

@@ -1,8 +1,8 @@
 // The names that the lines of a script begin with.
 ghost use Rattle.std.specs.Prelude.{◌≡◌};
-ghost use Rattle.std.specs.Str.{bytes_eq};
-ghost use Rattle.script.specs.Names.{call_name, name_of};
+ghost use Rattle.script.specs.Names.{name_of};
 
+// Apart from the commands: what a name asks for is told by its arguments too.
 #[derive(Clone, Copy)]
 pub enum Name {
     Ledger,
@@ -20,61 +20,24 @@ pub enum Name {
     Reopen,
 }
 
-fn is_word(word: &[u8], name: &[u8]) -> bool
-    ensures { result ≡ bytes_eq word.now name.now }
-{
-    word == name
-}
-
-// A call on a day.
-fn call_name(word: &[u8]) -> Option<Name>
-    ensures { result ≡ call_name word.now }
-{
-    if is_word(word, b"enter") {
-        return Some(Name::Enter);
-    }
-    if is_word(word, b"close") {
-        return Some(Name::Close);
-    }
-    if is_word(word, b"correct") {
-        return Some(Name::Correct);
-    }
-    if is_word(word, b"settle") {
-        return Some(Name::Settle);
-    }
-    if is_word(word, b"sheet") {
-        return Some(Name::Sheet);
-    }
-    if is_word(word, b"issue") {
-        return Some(Name::Issue);
-    }
-    if is_word(word, b"statement") {
-        return Some(Name::Statement);
-    }
-    if is_word(word, b"reopen") {
-        return Some(Name::Reopen);
-    }
-    None
-}
-
 // The name that a word is, if it is one.
 pub fn name_of(word: &[u8]) -> Option<Name>
     ensures { result ≡ name_of word.now }
 {
-    if is_word(word, b"ledger") {
-        return Some(Name::Ledger);
+    match word {
+        b"ledger" => Some(Name::Ledger),
+        b"buffer" => Some(Name::Buffer),
+        b"open" => Some(Name::Open),
+        b"load" => Some(Name::Load),
+        b"load-bytes" => Some(Name::LoadBytes),
+        b"enter" => Some(Name::Enter),
+        b"close" => Some(Name::Close),
+        b"correct" => Some(Name::Correct),
+        b"settle" => Some(Name::Settle),
+        b"sheet" => Some(Name::Sheet),
+        b"issue" => Some(Name::Issue),
+        b"statement" => Some(Name::Statement),
+        b"reopen" => Some(Name::Reopen),
+        _ => None,
     }
-    if is_word(word, b"buffer") {
-        return Some(Name::Buffer);
-    }
-    if is_word(word, b"open") {
-        return Some(Name::Open);
-    }
-    if is_word(word, b"load") {
-        return Some(Name::Load);
-    }
-    if is_word(word, b"load-bytes") {
-        return Some(Name::LoadBytes);
-    }
-    call_name(word)
 }

@@ -1,47 +1,25 @@
 // The lines of a script, and the words of a line.
-ghost use Rattle.std.specs.Prelude.{◌≡◌, ◌<◌, ◌≤◌, map, length, IfOk, MatchOption};
-ghost use Rattle.script.specs.Words.{after_line, after_word, before, blank, first_line, first_word, line_words, stops, unblanked, uncommented};
+ghost use Rattle.std.specs.Prelude.{◌≡◌, ℕ, ◌<◌, ◌≤◌, ◌↔◌, Bool, map, length, IfOk, IfSome, IsNone};
+ghost use Rattle.std.specs.List.{position_or_len};
+ghost use Rattle.script.specs.Words.{after_line, after_word, blank, first_line, first_word, line_words, unblanked, uncommented};
 
 use std::alloc::{AllocError, Global};
-
-// Where a run of bytes ends.
-#[derive(Clone, Copy)]
-enum Stop {
-    LineEnd,
-    Comment,
-    Blank,
-    Letter,
-}
 
 fn is_blank(byte: u8) -> bool
     ensures { result ≡ blank byte }
 {
-    byte == b' ' || byte == b'\t' || byte == b'\r'
+    matches!(byte, b' ' | b'\t' | b'\r')
 }
 
-impl Stop {
-    fn is_at(self, byte: u8) -> bool
-        ensures { result ≡ stops self byte }
-    {
-        match self {
-            Stop::LineEnd => byte == b'\n',
-            Stop::Comment => byte == b'#',
-            Stop::Blank => is_blank(byte),
-            Stop::Letter => !is_blank(byte),
-        }
-    }
-}
-
-// How many bytes stand before the stop; all, where there is none.
-fn length_before(text: &[u8], stop: Stop) -> usize
-    ensures value { result ≡ before stop text.now }
+// How many bytes stand before the first that passes the test; all, where none does.
+fn length_before<P: Fn(u8) -> bool>(text: &[u8], stops: P) -> usize
+    ghost test: { ℕ → Bool }
+    requires callable { P.IsAlwaysCallable stops }
+    requires computes { (b : ℕ) (r : Bool) → P.post stops b r → r ≡ test b }
+    ensures value { result ≡ position_or_len test text.now }
     ensures bound { result ≤ length text.now }
 {
-    let mut length = 0;
-    while length < text.len() && !stop.is_at(text[length]) {
-        length += 1;
-    }
-    length
+    text.iter().position(|b| stops(*b)).unwrap_or(text.len())
 }
 
 // The first line, without its end, and what follows it.
@@ -50,19 +28,15 @@ pub fn cut_line(text: &[u8]) -> (&[u8], &[u8])
     ensures rest { result.1.now ≡ after_line text.now }
     ensures less { 0 < length text.now → length result.1.now < length text.now }
 {
-    let end = length_before(text, Stop::LineEnd);
-    if end < text.len() {
-        (&text[0..end], &text[end + 1..])
-    } else {
-        (text, &text[end..])
-    }
+    let end = length_before(text, |b| b == b'\n');
+    (&text[..end], text.get(end + 1..).unwrap_or(&[]))
 }
 
 // The line up to its comment.
 pub fn before_comment(line: &[u8]) -> &[u8]
     ensures { result.now ≡ uncommented line.now }
 {
-    &line[0..length_before(line, Stop::Comment)]
+    &line[..length_before(line, |b| b == b'#')]
 }
 
 // The text from its first word on.
@@ -70,15 +44,18 @@ fn without_blanks(text: &[u8]) -> &[u8]
     ensures value { result.now ≡ unblanked text.now }
     ensures bound { length result.now ≤ length text.now }
 {
-    &text[length_before(text, Stop::Letter)..]
+    &text[length_before(text, |b| !is_blank(b))..]
 }
 
 // The first word, and what follows it; none where there are only blanks.
 pub fn cut_word(text: &[u8]) -> Option<(&[u8], &[u8])>
-    ensures { MatchOption result (length (first_word text.now) ≡ 0) (λ cut. (0 < length (first_word text.now)) × (cut.0.now ≡ first_word text.now) × (cut.1.now ≡ after_word text.now) × (length cut.1.now < length text.now)) }
+    ensures none { IsNone result ↔ (length (first_word text.now) ≡ 0) }
+    ensures word { IfSome result (λ cut. cut.0.now ≡ first_word text.now) }
+    ensures rest { IfSome result (λ cut. cut.1.now ≡ after_word text.now) }
+    ensures less { IfSome result (λ cut. length cut.1.now < length text.now) }
 {
     let rest = without_blanks(text);
-    let length = length_before(rest, Stop::Blank);
+    let length = length_before(rest, is_blank);
     if length == 0 {
         None
     } else {

@@ -1,25 +1,15 @@
-use Rattle.std.proofs.Common.{ℕ, Bool, not, sym, ap, arith}
-use Rattle.std.proofs.lemmas.List.Sums.{prefix_len-drop_all, prefix_len-drop_no, prefix_len-drop_yes}
-use Rattle.script.specs.Words.{stops}
+use Rattle.std.proofs.Common.{◌≡◌, ℕ, ◌≤◌, cond, ltb, Some, None, not, length, unwrap_or, ap, ◌∙◌, arith, rules, tests}
+use Rattle.std.proofs.lemmas.Bool.Decides.{nat_tests}
+use Rattle.std.proofs.lemmas.Iterator.{YieldsList-from_slice}
+use Rattle.std.proofs.lemmas.Iterator.Search.{position_from_yields_List}
+use Rattle.std.proofs.lemmas.List.Sums.{prefix_len-le-length}
 use Rattle.script.proofs.words.length_before.Goals as goal
 
-pub loop-length-preserved : goal.loop-length-preserved
-loop-length-preserved c =
-    let p : ℕ → Bool = λ b. not (stops c.args.stop b) in
-    (omega (arith, c.loop-length.invariant.0, prefix_len-drop_yes p c.args.text.now c.loop-length.length 0 c.loop-length-test.true (ap not (sym c.if-not-is_at.ensures))), omega arith)
+or_all : (i n : ℕ) → i ≤ n → unwrap_or (cond (ltb i n) (Some i) None) n ≡ i
+or_all i n h = grind (arith, nat_tests)
 
-pub returns-else-not-is_at : goal.returns-else-not-is_at
-returns-else-not-is_at c =
-    let p : ℕ → Bool = λ b. not (stops c.args.stop b) in
-    record {
-      value = omega (arith, c.loop-length.invariant.0, prefix_len-drop_no p c.args.text.now c.loop-length.length 0 c.loop-length-test.true (ap not (sym c.if-not-is_at.ensures)));
-      bound = c.loop-length.invariant.1;
-    }
-
-pub returns-after-loop-length : goal.returns-after-loop-length
-returns-after-loop-length c =
-    let p : ℕ → Bool = λ b. not (stops c.args.stop b) in
-    record {
-      value = omega (arith, c.loop-length.invariant.0, prefix_len-drop_all p c.args.text.now c.loop-length.length c.loop-length-test.false);
-      bound = c.loop-length.invariant.1;
-    }
+pub returns-clause-value : goal.returns-clause-value
+returns-clause-value g c =
+    let t = c.args.text.now in
+    let found = position_from_yields_List g.test _ _ c.position.result c.position.ensures.ran (YieldsList-from_slice t cc) (λ x b q k. search (rules, tests)) in
+    c.unwrap_or.ensures ∙ ap (λ o. unwrap_or o (length t)) found ∙ or_all _ _ (prefix_len-le-length (λ b. not (g.test b)) t)

@@ -1,7 +1,0 @@
--- Tests of equal bytes.
-use Rattle.std.proofs.Common.{◌≡◌, ℕ, Bool, List, Decides, rules}
-use Rattle.std.proofs.lemmas.Slice.Eq.{bytes_eq-Decides}
-use Rattle.std.specs.Str.{bytes_eq}
-
-pub tested : (xs ys : List ℕ) (r : Bool) → Decides r (xs ≡ ys) → r ≡ bytes_eq xs ys
-tested xs ys r h = search (rules, bytes_eq-Decides)
