@@ -9,10 +9,10 @@ use Rattle.faults.specs.declared.refusal.Refusal.TheVariants.{BufferTooShort, Le
 use Rattle.dayfile.specs.Records.{Records}
 use Rattle.dayfile.specs.declared.heading.Heading.{Heading}
 use Rattle.book.specs.Books.{answer, unless}
-use Rattle.correcting.specs.Readings.{correction, correction_refusal, reading_place}
 use Rattle.book.specs.Soundness.{records_of_day, sound_records}
-use Rattle.correcting.specs.declared.reading.Reading.{Reading}
 use Rattle.book.proofs.Keeps.{day_tells}
+use Rattle.correcting.specs.Readings.{correction, correction_refusal, reading_place}
+use Rattle.correcting.specs.declared.reading.Reading.{Reading}
 use Rattle.ledger.specs.Issues.{issue_answer, issue_leaves}
 use Rattle.ledger.specs.Notes.{sound_notes, within_limit}
 use Rattle.ledger.specs.declared.note.Note.{Note}
@@ -46,18 +46,17 @@ reread_is r reading e = go (correction_refusal r reading) refl e
     go None p e = rw p refl
     go (Some f) p e = let z : ◌≡◌ {A = ℕ} 0 1 = cc in absurd (omega arith)
 
+-- why a call is refused, from its answer
 pub refused_is : {X : Type 0} (o : Result X Fault) (f : Fault) → Err f ≡ answer o → Err f ≡ o
 refused_is (Ok x) f e = let z : ◌≡◌ {A = ℕ} 0 1 = cc in absurd (omega arith)
 refused_is (Err g) f e = cc
 
 -- what is against a call, from its outcome
-pub nothing_against : (o : Option Fault) → Ok tt ≡ outcome o → None ≡ o
-nothing_against None e = refl
-nothing_against (Some f) e = let z : ◌≡◌ {A = ℕ} 0 1 = cc in absurd (omega arith)
-
-pub something_against : (o : Option Fault) (f : Fault) → Err f ≡ outcome o → Some f ≡ o
-something_against None f e = let z : ◌≡◌ {A = ℕ} 0 1 = cc in absurd (omega arith)
-something_against (Some g) f e = cc
+pub outcome_tells : (o : Option Fault) (r : Result (Unit {0}) Fault) → r ≡ outcome o → MatchResult r (λ _. o ≡ None) (λ fault. o ≡ Some fault)
+outcome_tells None (Ok x) e = refl
+outcome_tells None (Err f) e = let z : ◌≡◌ {A = ℕ} 0 1 = cc in absurd (omega arith)
+outcome_tells (Some g) (Ok x) e = let z : ◌≡◌ {A = ℕ} 0 1 = cc in absurd (omega arith)
+outcome_tells (Some g) (Err f) e = cc
 
 -- an issue answers how many notes it added, or leaves the ledger
 issue_by : (b : Bool) (count : ℕ) (led new left : List Note) (r : Result ℕ Fault) → leb (count + length new) (length led) ≡ b → r ≡ cond b (Ok (length new)) (Err (plain LedgerFull))

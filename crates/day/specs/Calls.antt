@@ -1,6 +1,6 @@
 -- What each call comes to, for every day, memory and argument: why it is refused, if so; what it answers; and what memory
 -- then holds.
-use Rattle.std.specs.Prelude.{ℕ, ◌+◌, cond, List, length, take, Some, None, Ok, Err, Option, Result}
+use Rattle.std.specs.Prelude.{ℕ, ◌+◌, Bool, true, false, cond, List, length, take, Some, None, Ok, Err, Option, Result}
 use Rattle.faults.specs.Places.{plain}
 use Rattle.faults.specs.declared.fault.Fault.{Fault}
 use Rattle.faults.specs.declared.refusal.Refusal.TheVariants.{NoIssueLeft, UnsoundMemory}
@@ -20,15 +20,12 @@ use Rattle.settlement.specs.Sheets.{sheet}
 use Rattle.statement.specs.Statements.{statement_answer, statement_leaves, statement_text}
 use Rattle.day.specs.IssueNumbers.{following, issue_number}
 use Rattle.day.specs.Memory.{Memory, begun_with, memory, sound_memory}
+use Rattle.day.specs.States.{Closed, Issued, Open, Settled, day_with}
 use Rattle.day.specs.Tables.{table_of}
 use Rattle.day.specs.declared.issue_number.IssueNumber.{IssueNumber}
 use Rattle.day.specs.declared.issue_number.IssueNumber.TheVariants.{Initial}
 use Rattle.day.specs.declared.refused.Refused.{Refused}
-use Rattle.day.specs.declared.state.Closed.{Closed}
-use Rattle.day.specs.declared.state.Issued.{Issued}
 use Rattle.day.specs.declared.state.Numbers.{Numbers}
-use Rattle.day.specs.declared.state.Open.{Open}
-use Rattle.day.specs.declared.state.Settled.{Settled}
 
 -- the meaning of a rule: an amount and weights, to parts
 abbrev pub Parts : Type 0
@@ -55,6 +52,11 @@ made_before numbers = issue_number numbers.issue
 abbrev pub made_with : Numbers → ℕ
 made_with numbers = issue_number numbers.issue + 1
 
+-- the one or the other, by the state
+abbrev pub issues_in : Bool → Numbers → ℕ
+issues_in false = made_before
+issues_in true = made_with
+
 -- a day with these records, and no note
 abbrev pub first_numbers : Records → Numbers
 first_numbers r = record { heading = r.heading; counts = counts_of r; notes = 0; issue = Initial }
@@ -62,7 +64,7 @@ first_numbers r = record { heading = r.heading; counts = counts_of r; notes = 0;
 -- open
 
 abbrev pub opened_with : Memory → Result Heading Fault → Result Open Fault × Memory
-opened_with m (Ok heading) = (Ok (record { numbers = first_numbers (no_records heading) }), begun_with (no_records heading) m.ledger)
+opened_with m (Ok heading) = (Ok (day_with (first_numbers (no_records heading))), begun_with (no_records heading) m.ledger)
 opened_with m (Err fault) = (Err fault, m)
 
 abbrev pub open_gives : Memory → List ℕ → Result Open Fault × Memory
@@ -71,7 +73,7 @@ open_gives m bytes = opened_with m (decoded_heading bytes)
 -- load
 
 abbrev pub load_answer : Result Records Fault → Result Closed Fault
-load_answer (Ok r) = Ok (record { numbers = first_numbers r })
+load_answer (Ok r) = Ok (day_with (first_numbers r))
 load_answer (Err fault) = Err fault
 
 abbrev pub load_gives : Memory → List ℕ → Result Closed Fault × Memory
@@ -84,7 +86,7 @@ enter_refusal day m bytes = in_sound day.numbers (made_before day.numbers) m (fa
 
 -- the numbers of a day that has these records
 abbrev pub with_counts : Numbers → Records → Numbers
-with_counts numbers r = record { heading = numbers.heading; counts = counts_of r; notes = numbers.notes; issue = numbers.issue }
+with_counts numbers r = record numbers { counts = counts_of r }
 
 -- the records with the one that the bytes say
 abbrev pub records_with : Records → List ℕ → Records
@@ -93,7 +95,7 @@ records_with r bytes = entered r (admitted r bytes)
 abbrev pub enter_gives : Open → Memory → List ℕ → Result Open (Refused Open) × Memory
 enter_gives day m bytes =
     given (enter_refusal day m bytes) day m
-    (record { numbers = with_counts day.numbers (records_with m.records bytes) })
+    (day_with (with_counts day.numbers (records_with m.records bytes)))
     (memory (records_with m.records bytes) m.table m.ledger)
 
 -- close
@@ -102,7 +104,7 @@ abbrev pub close_refusal : Open → Memory → List ℕ → Option Fault
 close_refusal day m bytes = in_sound day.numbers (made_before day.numbers) m (fault_in (closing m.records bytes))
 
 abbrev pub close_gives : Open → Memory → List ℕ → Result Closed (Refused Open) × Memory
-close_gives day m bytes = given (close_refusal day m bytes) day m (record { numbers = day.numbers }) m
+close_gives day m bytes = given (close_refusal day m bytes) day m (day_with day.numbers) m
 
 -- correct
 
@@ -123,7 +125,7 @@ settle_call_refusal day m = in_sound day.numbers (made_before day.numbers) m (se
 
 abbrev pub settle_gives : Parts → Closed → Memory → Result Settled (Refused Closed) × Memory
 settle_gives parts day m =
-    given (settle_call_refusal day m) day m (record { numbers = day.numbers })
+    given (settle_call_refusal day m) day m (day_with day.numbers)
     (memory m.records (table_of (day_cell parts m.records)) m.ledger)
 
 -- sheet, of a settled or an issued day with these numbers and so many issues; the page is the table that it fills
@@ -147,12 +149,12 @@ issue_refusal day m =
     (fault_in (issue_answer m.ledger day.numbers.notes (notes_to_add day.numbers m)))
 
 abbrev pub with_notes : Numbers → ℕ → Numbers
-with_notes numbers added = record { heading = numbers.heading; counts = numbers.counts; notes = numbers.notes + added; issue = numbers.issue }
+with_notes numbers added = record numbers { notes = numbers.notes + added }
 
 abbrev pub issue_gives : Settled → Memory → Result (Issued × ℕ) (Refused Settled) × Memory
 issue_gives day m =
     given (issue_refusal day m) day m
-    (record { numbers = with_notes day.numbers (length (notes_to_add day.numbers m)) }, length (notes_to_add day.numbers m))
+    (day_with (with_notes day.numbers (length (notes_to_add day.numbers m))), length (notes_to_add day.numbers m))
     (memory m.records m.table (issue_leaves m.ledger day.numbers.notes (notes_to_add day.numbers m)))
 
 -- statement, which also answers the length of the text
@@ -175,7 +177,7 @@ statement_gives day m number buffer =
 
 abbrev pub reopened_at : Issued → Memory → Option IssueNumber → Result Closed (Refused Issued) × Memory
 reopened_at day m (Some next) =
-    (Ok (record { numbers = record { heading = day.numbers.heading; counts = day.numbers.counts; notes = day.numbers.notes; issue = next } }), m)
+    (Ok (day_with (record day.numbers { issue = next })), m)
 reopened_at day m None = (Err (record { day = day; fault = plain NoIssueLeft }), m)
 
 abbrev pub reopen_gives : Issued → Memory → Result Closed (Refused Issued) × Memory

@@ -1,4 +1,5 @@
 pub mod IssueNumbers
 pub mod Memory
+pub mod States
 pub mod Tables
 pub mod Calls

@@ -5,7 +5,6 @@ ghost use Rattle.correcting.specs.Readings.{corrected, correction};
 ghost use Rattle.day.specs.Calls.{correct_gives};
 ghost use Rattle.day.specs.Memory.{memory};
 
-use crate::memory::is_sound;
 use crate::refused::Refused;
 use crate::state::Closed;
 use book::book::Book;
@@ -13,7 +12,6 @@ use codes::table::Table;
 use correcting::correct::correct as correct_book;
 use correcting::reading::Reading;
 use faults::fault::Fault;
-use faults::refusal::Refusal;
 use ledger::note::Note;
 
 // Puts the reading into its position, unless there is a reason against it.
@@ -21,10 +19,8 @@ fn reread(book: &mut Book, reading: Reading) -> Result<Reading, Fault>
     ensures value { result ≡ correction (held book.old) reading }
     ensures after { held book.new ≡ corrected (held book.old) (correction (held book.old) reading) }
 {
-    match correct_book(book, reading) {
-        Ok(()) => Ok(reading),
-        Err(fault) => Err(fault),
-    }
+    correct_book(book, reading)?;
+    Ok(reading)
 }
 
 // Puts another reading in the place of the one that a position has.
@@ -37,19 +33,9 @@ pub fn correct(
 ) -> Result<Closed, Refused<Closed>>
     ensures { (result, memory (held book.new) table.now ledger.now) ≡ correct_gives day (memory (held book.old) table.now ledger.now) reading }
 {
-    let Closed { numbers } = day;
-    if !is_sound(&numbers, numbers.issue.number(), book, table, ledger) {
-        let fault = Fault::plain(Refusal::UnsoundMemory);
-        return Err(Refused {
-            day: Closed { numbers },
-            fault,
-        });
-    }
+    let day = day.checked_with(book, table, ledger)?;
     match reread(book, reading) {
-        Ok(_) => Ok(Closed { numbers }),
-        Err(fault) => Err(Refused {
-            day: Closed { numbers },
-            fault,
-        }),
+        Ok(_) => Ok(day),
+        Err(fault) => Err(Refused { day, fault }),
     }
 }

@@ -4,16 +4,14 @@ ghost use Rattle.book.specs.Books.{admitted, entered, held};
 ghost use Rattle.day.specs.Calls.{close_gives, enter_gives, with_counts};
 ghost use Rattle.day.specs.Memory.{memory};
 
-use crate::memory::is_sound;
 use crate::refused::Refused;
-use crate::state::{Closed, Numbers, Open};
+use crate::state::{Closed, DayIn, Numbers, Open};
 use book::book::Book;
 use closing::close::close as close_book;
 use codes::table::Table;
 use dayfile::record::Record;
 use decoding::decode::decode_record;
 use faults::fault::Fault;
-use faults::refusal::Refusal;
 use ledger::note::Note;
 
 // The same numbers, with the counts of the book's records.
@@ -21,10 +19,8 @@ fn with_counts(numbers: Numbers, book: &Book) -> Numbers
     ensures { result ≡ with_counts numbers (held book.now) }
 {
     Numbers {
-        heading: numbers.heading,
         counts: book.counts(),
-        notes: numbers.notes,
-        issue: numbers.issue,
+        ..numbers
     }
 }
 
@@ -48,22 +44,10 @@ pub fn enter(
 ) -> Result<Open, Refused<Open>>
     ensures { (result, memory (held book.new) table.now ledger.now) ≡ enter_gives day (memory (held book.old) table.now ledger.now) bytes.now }
 {
-    let Open { numbers } = day;
-    if !is_sound(&numbers, numbers.issue.number(), book, table, ledger) {
-        let fault = Fault::plain(Refusal::UnsoundMemory);
-        return Err(Refused {
-            day: Open { numbers },
-            fault,
-        });
-    }
+    let day = day.checked_with(book, table, ledger)?;
     match admit(book, bytes) {
-        Ok(_) => Ok(Open {
-            numbers: with_counts(numbers, book),
-        }),
-        Err(fault) => Err(Refused {
-            day: Open { numbers },
-            fault,
-        }),
+        Ok(_) => Ok(DayIn::new(with_counts(day.into_numbers(), book))),
+        Err(fault) => Err(Refused { day, fault }),
     }
 }
 
@@ -77,19 +61,9 @@ pub fn close(
 ) -> Result<Closed, Refused<Open>>
     ensures { (result, memory (held book.now) table.now ledger.now) ≡ close_gives day (memory (held book.now) table.now ledger.now) bytes.now }
 {
-    let Open { numbers } = day;
-    if !is_sound(&numbers, numbers.issue.number(), book, table, ledger) {
-        let fault = Fault::plain(Refusal::UnsoundMemory);
-        return Err(Refused {
-            day: Open { numbers },
-            fault,
-        });
-    }
+    let day = day.checked_with(book, table, ledger)?;
     match close_book(book, bytes) {
-        Ok(()) => Ok(Closed { numbers }),
-        Err(fault) => Err(Refused {
-            day: Open { numbers },
-            fault,
-        }),
+        Ok(()) => Ok(DayIn::new(day.into_numbers())),
+        Err(fault) => Err(Refused { day, fault }),
     }
 }

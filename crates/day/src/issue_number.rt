@@ -4,24 +4,19 @@ ghost use Rattle.day.specs.IssueNumbers.{following, issue_number};
 
 #[derive(Clone, Copy)]
 pub enum IssueNumber {
-    Initial,
-    InitialResettlement,
-    IntermediateResettlement,
-    FinalResettlement,
+    Initial = 0,
+    InitialResettlement = 1,
+    IntermediateResettlement = 2,
+    FinalResettlement = 3,
 }
 
 impl IssueNumber {
-    // 0 to 3.
+    // 0 to 3. A method and no `From`, as the bound goes with it.
     pub fn number(self) -> u8
         ensures value { result ≡ issue_number self }
         ensures bound { result ≤ 3 }
     {
-        match self {
-            IssueNumber::Initial => 0,
-            IssueNumber::InitialResettlement => 1,
-            IssueNumber::IntermediateResettlement => 2,
-            IssueNumber::FinalResettlement => 3,
-        }
+        self as u8
     }
 
     // The issue that comes after this one, if there is one.

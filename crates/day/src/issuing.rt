@@ -8,13 +8,11 @@ ghost use Rattle.day.specs.Calls.{issue_gives, made_before, made_with, statement
 ghost use Rattle.day.specs.IssueNumbers.{issue_number};
 ghost use Rattle.day.specs.Memory.{memory};
 
-use crate::memory::passes;
 use crate::refused::Refused;
-use crate::state::{Issued, Numbers, Settled};
+use crate::state::{DayIn, Issued, Numbers, Settled};
 use book::book::Book;
 use codes::table::Table;
 use faults::fault::Fault;
-use faults::refusal::Refusal;
 use ledger::issue::issue as add_notes;
 use ledger::note::Note;
 use statement::issued::statement as put_statement;
@@ -25,10 +23,8 @@ fn with_notes(numbers: Numbers, added: usize) -> Numbers
     ensures { result ≡ with_notes numbers added }
 {
     Numbers {
-        heading: numbers.heading,
-        counts: numbers.counts,
         notes: numbers.notes + added,
-        issue: numbers.issue,
+        ..numbers
     }
 }
 
@@ -53,29 +49,15 @@ pub fn issue(
 ) -> Result<(Issued, usize), Refused<Settled>>
     ensures { (result, memory (held book.now) table.now ledger.new) ≡ issue_gives day (memory (held book.now) table.now ledger.old) }
 {
-    let Settled { numbers } = day;
-    if !passes(&numbers, numbers.issue.number(), book, table, ledger) {
-        let fault = Fault::plain(Refusal::UnsoundMemory);
-        return Err(Refused {
-            day: Settled { numbers },
-            fault,
-        });
-    }
-    match add(&numbers, table, ledger) {
-        Ok(added) => Ok((
-            Issued {
-                numbers: with_notes(numbers, added),
-            },
-            added,
-        )),
-        Err(fault) => Err(Refused {
-            day: Settled { numbers },
-            fault,
-        }),
+    let day = day.checked_with(book, table, ledger)?;
+    match add(&day.numbers, table, ledger) {
+        Ok(added) => Ok((DayIn::new(with_notes(day.into_numbers(), added)), added)),
+        Err(fault) => Err(Refused { day, fault }),
     }
 }
 
-// Writes the text of an issue, if it was made and the text fits. Answers how long it is.
+// Writes the text of an issue, if it was made and the text fits. Answers how long it is. The issue is a number: one that
+// names no issue is refused.
 fn put(numbers: &Numbers, issue: u8, ledger: &[Note], buffer: &mut [u8]) -> Result<usize, Fault>
     requires { sound_notes ledger.now numbers.now.notes (made_with numbers.now) ≡ true }
     ensures value { result ≡ statement_answer numbers.now.heading (take numbers.now.notes ledger.now) (made_with numbers.now) issue buffer.old }
@@ -103,19 +85,9 @@ pub fn statement(
 ) -> Result<(Issued, usize), Refused<Issued>>
     ensures { (result, buffer.new) ≡ statement_gives day (memory (held book.now) table.now ledger.now) issue buffer.old }
 {
-    let Issued { numbers } = day;
-    if !passes(&numbers, numbers.issue.number() + 1, book, table, ledger) {
-        let fault = Fault::plain(Refusal::UnsoundMemory);
-        return Err(Refused {
-            day: Issued { numbers },
-            fault,
-        });
-    }
-    match put(&numbers, issue, ledger, buffer) {
-        Ok(length) => Ok((Issued { numbers }, length)),
-        Err(fault) => Err(Refused {
-            day: Issued { numbers },
-            fault,
-        }),
+    let day = day.checked_with(book, table, ledger)?;
+    match put(&day.numbers, issue, ledger, buffer) {
+        Ok(length) => Ok((day, length)),
+        Err(fault) => Err(Refused { day, fault }),
     }
 }

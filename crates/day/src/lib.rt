@@ -11,4 +11,5 @@ pub mod refused;
 pub mod reopening;
 pub mod settling;
 pub mod sheets;
+pub mod stage;
 pub mod state;

@@ -7,7 +7,7 @@ ghost use Rattle.ledger.specs.Notes.{cleared};
 ghost use Rattle.loading.specs.Loading.{file_records, load_leaves};
 
 use crate::issue_number::IssueNumber;
-use crate::state::{Closed, Numbers, Open};
+use crate::state::{Closed, DayIn, Numbers, Open};
 use book::book::Book;
 use codes::table::Table;
 use decoding::decode::decode_heading;
@@ -45,16 +45,10 @@ pub fn open(
 ) -> Result<Open, Fault>
     ensures { (result, memory (held book.new) table.new ledger.new) ≡ open_gives (memory (held book.old) table.old ledger.old) bytes.now }
 {
-    match decode_heading(bytes) {
-        Ok(heading) => {
-            book.clear(heading);
-            empty(table, ledger);
-            Ok(Open {
-                numbers: first_numbers(book),
-            })
-        }
-        Err(fault) => Err(fault),
-    }
+    let heading = decode_heading(bytes)?;
+    book.clear(heading);
+    empty(table, ledger);
+    Ok(DayIn::new(first_numbers(book)))
 }
 
 // A closed day with the records of a file; or no records, where the file is refused.
@@ -62,12 +56,8 @@ fn load_records(file: &[u8], book: &mut Book) -> Result<Closed, Fault>
     ensures value { result ≡ load_answer (file_records file.now) }
     ensures after { held book.new ≡ load_leaves (held book.old) file.now }
 {
-    match load_book(book, file) {
-        Ok(()) => Ok(Closed {
-            numbers: first_numbers(book),
-        }),
-        Err(fault) => Err(fault),
-    }
+    load_book(book, file)?;
+    Ok(DayIn::new(first_numbers(book)))
 }
 
 // Loads a day file: opens a day with its first record, enters each record after it and closes the day with the end record.

@@ -4,10 +4,8 @@ ghost use Rattle.book.specs.Books.{held};
 ghost use Rattle.day.specs.Calls.{reopen_gives};
 ghost use Rattle.day.specs.Memory.{memory};
 
-use crate::issue_number::IssueNumber;
-use crate::memory::is_sound;
 use crate::refused::Refused;
-use crate::state::{Closed, Issued, Numbers};
+use crate::state::{Closed, DayIn, Issued, Numbers};
 use book::book::Book;
 use codes::table::Table;
 use faults::fault::Fault;
@@ -23,25 +21,14 @@ pub fn reopen(
 ) -> Result<Closed, Refused<Issued>>
     ensures { (result, memory (held book.now) table.now ledger.now) ≡ reopen_gives day (memory (held book.now) table.now ledger.now) }
 {
-    let Issued { numbers } = day;
-    if !is_sound(&numbers, numbers.issue.number() + 1, book, table, ledger) {
-        let fault = Fault::plain(Refusal::UnsoundMemory);
-        return Err(Refused {
-            day: Issued { numbers },
-            fault,
-        });
-    }
-    match numbers.issue.following() {
-        Some(issue) => Ok(Closed {
-            numbers: Numbers {
-                heading: numbers.heading,
-                counts: numbers.counts,
-                notes: numbers.notes,
-                issue,
-            },
-        }),
+    let day = day.checked_with(book, table, ledger)?;
+    match day.numbers.issue.following() {
+        Some(issue) => Ok(DayIn::new(Numbers {
+            issue,
+            ..day.into_numbers()
+        })),
         None => Err(Refused {
-            day: Issued { numbers },
+            day,
             fault: Fault::plain(Refusal::NoIssueLeft),
         }),
     }

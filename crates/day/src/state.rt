@@ -1,9 +1,14 @@
-// The states of a day.
+// A day in one of its states.
 ghost use Rattle.std.specs.Prelude.{◌≡◌};
+ghost use Rattle.day.specs.Calls.{issues_in};
+ghost use Rattle.day.specs.States.{day_with};
 
 use crate::issue_number::IssueNumber;
+use crate::stage;
+use crate::stage::State;
 use book::counts::Counts;
 use dayfile::heading::Heading;
+use std::marker::PhantomData;
 
 // The numbers that a day carries from call to call.
 #[derive(Clone, Copy)]
@@ -17,59 +22,45 @@ pub struct Numbers {
     pub issue: IssueNumber,
 }
 
-// Takes records.
-pub struct Open {
+// A day in the state S. Only the calls make one, and it cannot be dropped.
+pub struct DayIn<S> {
     pub(crate) numbers: Numbers,
+    pub(crate) state: PhantomData<S>,
 }
 
-// Has all its records; their readings may still be corrected.
-pub struct Closed {
-    pub(crate) numbers: Numbers,
-}
+pub type Open = DayIn<stage::Open>;
 
-// Has a table, and is not issued.
-pub struct Settled {
-    pub(crate) numbers: Numbers,
-}
+pub type Closed = DayIn<stage::Closed>;
 
-// Has a table, and its notes are in the ledger.
-pub struct Issued {
-    pub(crate) numbers: Numbers,
-}
+pub type Settled = DayIn<stage::Settled>;
 
-// No state can be dropped. Who has no more use for a day takes its numbers and lets the day go.
-impl Open {
-    pub fn into_numbers(self) -> Numbers
-        ensures { result ≡ self.numbers }
+pub type Issued = DayIn<stage::Issued>;
+
+impl<S: State> DayIn<S> {
+    pub(crate) fn new(numbers: Numbers) -> DayIn<S>
+        ensures { result ≡ day_with numbers }
     {
-        let Open { numbers } = self;
-        numbers
+        DayIn {
+            numbers,
+            state: PhantomData,
+        }
+    }
+
+    // How many issues were made.
+    pub(crate) fn issues(&self) -> u8
+        ensures { result ≡ issues_in S.State.MADE self.now.numbers }
+    {
+        let named = self.numbers.issue.number();
+        if S::MADE { named + 1 } else { named }
     }
 }
 
-impl Closed {
+impl<S> DayIn<S> {
+    // Who has no more use for a day takes its numbers and lets the day go.
     pub fn into_numbers(self) -> Numbers
         ensures { result ≡ self.numbers }
     {
-        let Closed { numbers } = self;
-        numbers
-    }
-}
-
-impl Settled {
-    pub fn into_numbers(self) -> Numbers
-        ensures { result ≡ self.numbers }
-    {
-        let Settled { numbers } = self;
-        numbers
-    }
-}
-
-impl Issued {
-    pub fn into_numbers(self) -> Numbers
-        ensures { result ≡ self.numbers }
-    {
-        let Issued { numbers } = self;
+        let DayIn { numbers, state: _ } = self;
         numbers
     }
 }

@@ -5,7 +5,7 @@ use day::issuing::issue;
 use day::opening::load;
 use day::refused::Refused;
 use day::settling::settle;
-use day::state::{Closed, Issued, Settled};
+use day::state::{Closed, DayIn, Issued, Settled};
 use ledger::note::Note;
 use sharing::choice::Rule;
 use std::test::Fail;
@@ -15,55 +15,29 @@ use std::test::Fail;
 pub const FILE: [u8; 54] =
     *b"DY\x07\xe3\x03\x05\x18\x02\x01\x00PN\x01\x07\x00\x00\xc3\x50\x00\x00\xea\x60EN\x01\x01\x07\x02\x00\x00\x07\xd0\x00\x00\x07\xd0EN\x02\x01\x07\x02\x00\x00\x03\xe8\x00\x00\x05\x14ZZ\x00\x04";
 
-// A day of some state, which can only be let go by its numbers.
-pub trait Ending {
-    fn end(self);
-}
-
-impl Ending for Closed {
-    fn end(self) {
-        let _ = self.into_numbers();
-    }
-}
-
-impl Ending for Settled {
-    fn end(self) {
-        let _ = self.into_numbers();
-    }
-}
-
-impl Ending for Issued {
-    fn end(self) {
-        let _ = self.into_numbers();
-    }
-}
-
-impl Ending for (Issued, usize) {
-    fn end(self) {
-        let (day, _) = self;
-        let _ = day.into_numbers();
-    }
-}
-
-// Ends the day; the number of the refusal, 0 where there is none.
-pub fn refused<A: Ending, D: Ending>(answer: Result<A, Refused<D>>) -> u8 {
+// Lets the day go, by its numbers; the number of the refusal, if there is one.
+pub fn refused<S, T>(answer: Result<DayIn<S>, Refused<DayIn<T>>>) -> Option<u8> {
     match answer {
         Ok(day) => {
-            day.end();
-            0
+            let _ = day.into_numbers();
+            None
         }
         Err(Refused { day, fault }) => {
-            day.end();
-            fault.number()
+            let _ = day.into_numbers();
+            Some(fault.number())
         }
     }
+}
+
+// Lets the day of a refused call go.
+fn fail<S>(refused: Refused<DayIn<S>>, why: &'static str) -> Fail {
+    let Refused { day, fault: _ } = refused;
+    let _ = day.into_numbers();
+    Fail::new(why)
 }
 
 pub fn loaded(book: &mut Book, table: &mut Table, ledger: &mut [Note]) -> Result<Closed, Fail> {
-    match load(&FILE, book, table, ledger) {
-        Ok(day) => Ok(day),
-        Err(_) => Err(Fail::new("load was refused")),
-    }
+    load(&FILE, book, table, ledger).map_err(|_| Fail::new("load was refused"))
 }
 
 pub fn settled(
@@ -72,29 +46,13 @@ pub fn settled(
     table: &mut Table,
     ledger: &[Note],
 ) -> Result<Settled, Fail> {
-    match settle(day, &Rule::Running, book, table, ledger) {
-        Ok(day) => Ok(day),
-        Err(refused) => {
-            let Refused { day, fault: _ } = refused;
-            day.end();
-            Err(Fail::new("settle was refused"))
-        }
-    }
+    settle(day, &Rule::Running, book, table, ledger).map_err(|no| fail(no, "settle was refused"))
 }
 
 // The day loaded, settled and issued, with seven notes.
 pub fn issued(book: &mut Book, table: &mut Table, ledger: &mut [Note]) -> Result<Issued, Fail> {
     let day = loaded(book, table, ledger)?;
     let day = settled(day, book, table, ledger)?;
-    match issue(day, book, table, ledger) {
-        Ok(answered) => {
-            let (day, _) = answered;
-            Ok(day)
-        }
-        Err(refused) => {
-            let Refused { day, fault: _ } = refused;
-            day.end();
-            Err(Fail::new("issue was refused"))
-        }
-    }
+    let (day, _) = issue(day, book, table, ledger).map_err(|no| fail(no, "issue was refused"))?;
+    Ok(day)
 }

@@ -3,7 +3,7 @@ use crate::days::FILE;
 use book::book::Book;
 use codes::table::Table;
 use history::replay::replay;
-use history::steps::{Answer, Begin, NotBegun, Replay, Step};
+use history::steps::{Answer, Begin, NotBegun, Outcome, Replay, Step};
 use ledger::note::Note;
 use sharing::choice::Rule;
 use std::alloc::Global;
@@ -44,23 +44,23 @@ fn answers<'a>(
 
 // Was the call done, with nothing to tell?
 fn is_done(answers: &[Answer], index: usize) -> bool {
-    matches!(answers.get(index), Some(Answer::Done))
+    matches!(answers.get(index), Some(Ok(Outcome::Done)))
 }
 
 // How many notes an issue added, or bytes a statement has.
 fn count(answers: &[Answer], index: usize) -> Option<usize> {
     match answers.get(index) {
-        Some(Answer::Added(notes)) => Some(*notes),
-        Some(Answer::Written(length)) => Some(*length),
+        Some(Ok(Outcome::Added(notes))) => Some(*notes),
+        Some(Ok(Outcome::Written(length))) => Some(*length),
         _ => None,
     }
 }
 
-// The number of the refusal, 0 where there is none.
-fn refusal(answers: &[Answer], index: usize) -> u8 {
+// The number of the refusal, if there is one.
+fn refusal(answers: &[Answer], index: usize) -> Option<u8> {
     match answers.get(index) {
-        Some(Answer::Refused(fault)) => fault.number(),
-        _ => 0,
+        Some(Err(fault)) => Some(fault.number()),
+        _ => None,
     }
 }
 
@@ -113,9 +113,9 @@ fn refused_in_the_middle(rt: HostRuntime) -> Result<(), Fail> {
         &mut buffer,
     )?;
     assert_eq!(rt; told.len(), 7);
-    assert_eq!(rt; refusal(told.as_slice(), 1), 7);
+    assert_eq!(rt; refusal(told.as_slice(), 1), Some(7));
     assert!(rt; is_done(told.as_slice(), 2));
-    assert_eq!(rt; refusal(told.as_slice(), 3), 9);
+    assert_eq!(rt; refusal(told.as_slice(), 3), Some(9));
     assert!(rt; is_done(told.as_slice(), 4));
     assert_eq!(rt; count(told.as_slice(), 6), Some(2));
     Ok(())
@@ -150,6 +150,6 @@ fn no_fifth_issue(rt: HostRuntime) -> Result<(), Fail> {
     assert_eq!(rt; told.len(), 12);
     assert_eq!(rt; count(told.as_slice(), 1), Some(7));
     assert_eq!(rt; count(told.as_slice(), 10), Some(0));
-    assert_eq!(rt; refusal(told.as_slice(), 11), 14);
+    assert_eq!(rt; refusal(told.as_slice(), 11), Some(14));
     Ok(())
 }

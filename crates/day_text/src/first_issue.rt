@@ -13,14 +13,6 @@ use ledger::issue::issue;
 use ledger::note::{Note, clear};
 use statement::issued::statement;
 
-// How many cells a table has, by its type.
-fn cells_in(table: &Table) -> usize
-    ensures { length table.now.cells ≡ cell_count }
-{
-    let cells: &[i64] = &table.cells;
-    cells.len()
-}
-
 // Issues the table into an empty ledger with room for every cell, and answers how many notes there are.
 pub fn issue_first(ledger: &mut [Note], table: &Table) -> usize
     requires room { cell_count ≤ length ledger.old }
@@ -29,12 +21,10 @@ pub fn issue_first(ledger: &mut [Note], table: &Table) -> usize
     ensures few { result ≤ cell_count }
     ensures sound { sound_notes ledger.new result 1 ≡ true }
 {
-    let _ = cells_in(table);
+    // How many cells it has, for the proof.
+    let _ = table.as_slice();
     clear(ledger);
-    match issue(ledger, 0, 0, table) {
-        Ok(count) => count,
-        Err(_) => 0,
-    }
+    issue(ledger, 0, 0, table).unwrap()
 }
 
 // The statement of the first issue, for which there is room.
@@ -46,8 +36,5 @@ pub fn state_first(heading: &Heading, ledger: &[Note], notes: usize, buffer: &mu
     ensures after { buffer.new ≡ left_if_fits (statement_text heading.now (take notes ledger.now) 0) buffer.old }
     ensures within { result ≤ length buffer.old }
 {
-    match statement(heading, ledger, notes, 1, 0, buffer) {
-        Ok(length) => length,
-        Err(_) => 0,
-    }
+    statement(heading, ledger, notes, 1, 0, buffer).unwrap()
 }

@@ -30,10 +30,7 @@ pub fn put_fault(buffer: &mut [u8], fault: &Fault) -> usize
     ensures after { buffer.new ≡ left_if_fits (refused_text fault.now) buffer.old }
     ensures within { result ≤ length buffer.old }
 {
-    match put_refused(buffer, fault) {
-        Some(length) => length,
-        None => 0,
-    }
+    put_refused(buffer, fault).unwrap()
 }
 
 // Settles the book under the running rule, issues the table and states the issue.
@@ -54,7 +51,8 @@ fn put_settled(book: &Book, table: &mut Table, ledger: &mut [Note], buffer: &mut
     }
 }
 
-// The same, with room enough by what is lent.
+// The same of a file. Slices are lent here and above, as a proof knows an array's length only as a slice's; the room that is
+// asked is what the arrays of `print_day` have.
 fn put_printed(
     book: &mut Book,
     table: &mut Table,

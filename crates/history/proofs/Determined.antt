@@ -15,12 +15,10 @@ use Rattle.settlement.specs.Sheets.{sheet}
 use Rattle.statement.specs.Statements.{statement_text}
 use Rattle.day.specs.Calls.{Parts, close_gives, correct_gives, enter_gives, first_numbers, issue_gives, load_answer, notes_in, opened_with, reopen_gives, settle_gives, sheet_call_refusal, statement_refusal}
 use Rattle.day.specs.Memory.{Memory, begun_with, memory}
+use Rattle.day.specs.States as day_state
+use Rattle.day.specs.States.{day_with}
 use Rattle.day.specs.Tables.{table_of}
 use Rattle.day.specs.declared.refused.Refused.{Refused}
-use Rattle.day.specs.declared.state.Closed as closed_state
-use Rattle.day.specs.declared.state.Issued as issued_state
-use Rattle.day.specs.declared.state.Open as open_state
-use Rattle.day.specs.declared.state.Settled as settled_state
 use Rattle.day.proofs.Beginning.{left_by_load}
 use Rattle.history.specs.Events.{Call, Event, call_of, calls_of, closed, closing, corrected, correcting, entered, entering, issued, issuing, loaded, loading, opened, opening, refused, reopened, reopening, settled, settling, sheeted, sheeting, stated, stating}
 use Rattle.history.specs.Histories.{Does, History, added_notes, closes, closes_not, corrects, corrects_not, enters, enters_not, issues, issues_not, loads, next, opens, reopens, reopens_not, settles, settles_not, sheets, sheets_not, states, states_not}
@@ -43,31 +41,31 @@ abbrev entered_as : List ℕ → Result Record Fault → Event
 entered_as bytes (Ok item) = entered bytes item
 entered_as bytes (Err f) = reopened
 
-abbrev enter_end : List ℕ → Result open_state.Open (Refused open_state.Open) × Memory → End
+abbrev enter_end : List ℕ → Result day_state.Open (Refused day_state.Open) × Memory → End
 enter_end bytes g = by g.0
   where
-    by : Result open_state.Open (Refused open_state.Open) → End
+    by : Result day_state.Open (Refused day_state.Open) → End
     by (Ok e) = (entered_as bytes (decoded_record bytes), Open e, g.1)
     by (Err r) = (refused (entering bytes) r.fault, Open r.day, g.1)
 
-abbrev close_end : List ℕ → Result closed_state.Closed (Refused open_state.Open) × Memory → End
+abbrev close_end : List ℕ → Result day_state.Closed (Refused day_state.Open) × Memory → End
 close_end bytes g = by g.0
   where
-    by : Result closed_state.Closed (Refused open_state.Open) → End
+    by : Result day_state.Closed (Refused day_state.Open) → End
     by (Ok e) = (closed bytes, Closed e, g.1)
     by (Err r) = (refused (closing bytes) r.fault, Open r.day, g.1)
 
-abbrev correct_end : Reading → Result closed_state.Closed (Refused closed_state.Closed) × Memory → End
+abbrev correct_end : Reading → Result day_state.Closed (Refused day_state.Closed) × Memory → End
 correct_end reading g = by g.0
   where
-    by : Result closed_state.Closed (Refused closed_state.Closed) → End
+    by : Result day_state.Closed (Refused day_state.Closed) → End
     by (Ok e) = (corrected reading, Closed e, g.1)
     by (Err r) = (refused (correcting reading) r.fault, Closed r.day, g.1)
 
-abbrev settle_end : Parts → Result settled_state.Settled (Refused closed_state.Closed) × Memory → End
+abbrev settle_end : Parts → Result day_state.Settled (Refused day_state.Closed) × Memory → End
 settle_end parts g = by g.0
   where
-    by : Result settled_state.Settled (Refused closed_state.Closed) → End
+    by : Result day_state.Settled (Refused day_state.Closed) → End
     by (Ok e) = (settled parts, Settled e, g.1)
     by (Err r) = (refused (settling parts) r.fault, Closed r.day, g.1)
 
@@ -75,43 +73,43 @@ abbrev sheet_end : Day → Memory → ℕ → Parts → Option Fault → End
 sheet_end d m hour parts None = (sheeted hour parts (table_of (sheet parts m.records hour)), d, m)
 sheet_end d m hour parts (Some f) = (refused (sheeting hour parts) f, d, m)
 
-abbrev issue_end : settled_state.Settled → Result (issued_state.Issued × ℕ) (Refused settled_state.Settled) × Memory → End
+abbrev issue_end : day_state.Settled → Result (day_state.Issued × ℕ) (Refused day_state.Settled) × Memory → End
 issue_end d g = by g.0
   where
-    by : Result (issued_state.Issued × ℕ) (Refused settled_state.Settled) → End
+    by : Result (day_state.Issued × ℕ) (Refused day_state.Settled) → End
     by (Ok e) = (issued (added_notes d.numbers.notes e.1 g.1), Issued e.0, g.1)
     by (Err r) = (refused issuing r.fault, Settled r.day, g.1)
 
-abbrev statement_end : issued_state.Issued → Memory → ℕ → ℕ → Option Fault → End
+abbrev statement_end : day_state.Issued → Memory → ℕ → ℕ → Option Fault → End
 statement_end d m number room None = (stated number room (statement_text d.numbers.heading (notes_in d.numbers m) number), Issued d, m)
 statement_end d m number room (Some f) = (refused (stating number room) f, Issued d, m)
 
-abbrev reopen_end : Result closed_state.Closed (Refused issued_state.Issued) × Memory → End
+abbrev reopen_end : Result day_state.Closed (Refused day_state.Issued) × Memory → End
 reopen_end g = by g.0
   where
-    by : Result closed_state.Closed (Refused issued_state.Issued) → End
+    by : Result day_state.Closed (Refused day_state.Issued) → End
     by (Ok e) = (reopened, Closed e, g.1)
     by (Err r) = (refused reopening r.fault, Issued r.day, g.1)
 
-abbrev on_open : Day → (open_state.Open → End) → Memory → End
+abbrev on_open : Day → (day_state.Open → End) → Memory → End
 on_open (Open d) f m = f d
 on_open (Closed d) f m = nothing (Closed d) m
 on_open (Settled d) f m = nothing (Settled d) m
 on_open (Issued d) f m = nothing (Issued d) m
 
-abbrev on_closed : Day → (closed_state.Closed → End) → Memory → End
+abbrev on_closed : Day → (day_state.Closed → End) → Memory → End
 on_closed (Open d) f m = nothing (Open d) m
 on_closed (Closed d) f m = f d
 on_closed (Settled d) f m = nothing (Settled d) m
 on_closed (Issued d) f m = nothing (Issued d) m
 
-abbrev on_settled : Day → (settled_state.Settled → End) → Memory → End
+abbrev on_settled : Day → (day_state.Settled → End) → Memory → End
 on_settled (Open d) f m = nothing (Open d) m
 on_settled (Closed d) f m = nothing (Closed d) m
 on_settled (Settled d) f m = f d
 on_settled (Issued d) f m = nothing (Issued d) m
 
-abbrev on_issued : Day → (issued_state.Issued → End) → Memory → End
+abbrev on_issued : Day → (day_state.Issued → End) → Memory → End
 on_issued (Open d) f m = nothing (Open d) m
 on_issued (Closed d) f m = nothing (Closed d) m
 on_issued (Settled d) f m = nothing (Settled d) m
@@ -163,12 +161,12 @@ abbrev begun_in : Records → ℕ → Memory
 begun_in r entries = memory r (record { cells = empty_cells }) (replicate entries no_note)
 
 abbrev open_end : List ℕ → ℕ → Result Heading Fault → End
-open_end bytes entries (Ok heading) = (opened bytes entries heading, Open (record { numbers = first_numbers (no_records heading) }), begun_in (no_records heading) entries)
-open_end bytes entries (Err f) = nothing (Open (record { numbers = first_numbers (no_records new_heading) })) (begun_in (no_records new_heading) entries)
+open_end bytes entries (Ok heading) = (opened bytes entries heading, Open (day_with (first_numbers (no_records heading))), begun_in (no_records heading) entries)
+open_end bytes entries (Err f) = nothing (Open (day_with (first_numbers (no_records new_heading)))) (begun_in (no_records new_heading) entries)
 
 abbrev load_end : List ℕ → ℕ → Result Records Fault → End
-load_end file entries (Ok r) = (loaded file entries r, Closed (record { numbers = first_numbers r }), begun_in r entries)
-load_end file entries (Err f) = nothing (Open (record { numbers = first_numbers (no_records new_heading) })) (begun_in (no_records new_heading) entries)
+load_end file entries (Ok r) = (loaded file entries r, Closed (day_with (first_numbers r)), begun_in r entries)
+load_end file entries (Err f) = nothing (Open (day_with (first_numbers (no_records new_heading)))) (begun_in (no_records new_heading) entries)
 
 abbrev first_end : Call → End
 first_end (opening bytes entries) = open_end bytes entries (decoded_heading bytes)
@@ -183,32 +181,32 @@ first_end (stating number room) = load_end [] 0 (file_records [])
 first_end reopening = load_end [] 0 (file_records [])
 
 abbrev Opening : Type 0
-Opening = Result open_state.Open Fault × Memory
+Opening = Result day_state.Open Fault × Memory
 
 abbrev Loading : Type 0
-Loading = Result closed_state.Closed Fault × Memory
+Loading = Result day_state.Closed Fault × Memory
 
 open_by : List ℕ → ℕ → Heading → Opening → End
 open_by bytes entries heading g = by g.0
   where
-    by : Result open_state.Open Fault → End
+    by : Result day_state.Open Fault → End
     by (Ok d) = (opened bytes entries heading, Open d, g.1)
-    by (Err f) = (reopened, Open (record { numbers = first_numbers (no_records heading) }), g.1)
+    by (Err f) = (reopened, Open (day_with (first_numbers (no_records heading))), g.1)
 
 load_by : List ℕ → ℕ → Records → Loading → End
 load_by file entries r g = by g.0
   where
-    by : Result closed_state.Closed Fault → End
+    by : Result day_state.Closed Fault → End
     by (Ok d) = (loaded file entries r, Closed d, g.1)
-    by (Err f) = (reopened, Closed (record { numbers = first_numbers r }), g.1)
+    by (Err f) = (reopened, Closed (day_with (first_numbers r)), g.1)
 
-opens_end : (m n : Memory) (bytes : List ℕ) (d : open_state.Open) (heading : Heading) → ◌≡◌ {A = Opening} (Ok d, n) (opened_with m (decoded_heading bytes)) → decoded_heading bytes ≡ Ok heading
+opens_end : (m n : Memory) (bytes : List ℕ) (d : day_state.Open) (heading : Heading) → ◌≡◌ {A = Opening} (Ok d, n) (opened_with m (decoded_heading bytes)) → decoded_heading bytes ≡ Ok heading
     → ◌≡◌ {A = End} (opened bytes (length m.ledger) heading, Open d, n) (first_end (opening bytes (length m.ledger)))
 unfolding open_by
 opens_end m n bytes d heading q decoded =
     ap (open_by bytes (length m.ledger) heading) (q ∙ ap (opened_with m) decoded) ∙ ap (open_end bytes (length m.ledger)) (sym decoded)
 
-loads_end : (m n : Memory) (file : List ℕ) (d : closed_state.Closed) (r : Records) → ◌≡◌ {A = Loading} (Ok d, n) (load_answer (file_records file), begun_with (load_leaves m.records file) m.ledger) → file_records file ≡ Ok r
+loads_end : (m n : Memory) (file : List ℕ) (d : day_state.Closed) (r : Records) → ◌≡◌ {A = Loading} (Ok d, n) (load_answer (file_records file), begun_with (load_leaves m.records file) m.ledger) → file_records file ≡ Ok r
     → ◌≡◌ {A = End} (loaded file (length m.ledger) r, Closed d, n) (first_end (loading file (length m.ledger)))
 unfolding load_by
 loads_end m n file d r q whole =

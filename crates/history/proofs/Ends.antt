@@ -13,11 +13,9 @@ use Rattle.text.specs.Written.{written}
 use Rattle.day.specs.Calls.{fault_in, issue_gives, issue_refusal, made_with, notes_in, notes_to_add, reopen_gives, reopened_at, statement_gives, statement_refusal, with_notes}
 use Rattle.day.specs.IssueNumbers.{following}
 use Rattle.day.specs.Memory.{Memory, memory, sound_memory}
+use Rattle.day.specs.States.{Closed, Issued, Settled, day_with}
 use Rattle.day.specs.declared.issue_number.IssueNumber.{IssueNumber}
 use Rattle.day.specs.declared.refused.Refused.{Refused}
-use Rattle.day.specs.declared.state.Closed.{Closed}
-use Rattle.day.specs.declared.state.Issued.{Issued}
-use Rattle.day.specs.declared.state.Settled.{Settled}
 use Rattle.history.specs.Histories.{added_notes}
 use Rattle.history.proofs.Keeping.{at_issue}
 use Rattle.history.proofs.Outcomes.{nothing_against, ok_not_err, some_not_none, went_well}
@@ -43,7 +41,7 @@ behind led count new fits = go (leb (count + length new) (length led)) (le-leb (
 
 pub record IssueEnds (d : Settled) (e : Issued) (count : ℕ) (m n : Memory) : Type 0 where
   pub fits : d.numbers.notes + length (notes_to_add d.numbers m) ≤ length m.ledger
-  pub day : e ≡ record { numbers = with_notes d.numbers (length (notes_to_add d.numbers m)) }
+  pub day : e ≡ day_with (with_notes d.numbers (length (notes_to_add d.numbers m)))
   pub memory_is : n ≡ memory m.records m.table (issue_leaves m.ledger d.numbers.notes (notes_to_add d.numbers m))
   pub added : added_notes d.numbers.notes count n ≡ notes_to_add d.numbers m
   pub many : count ≡ length (notes_to_add d.numbers m)
@@ -108,7 +106,7 @@ statement_ends d e count m number buffer filled q =
 pub record ReopenEnds (d : Issued) (e : Closed) (m n : Memory) : Type 0 where
   pub issue : IssueNumber
   pub follows : following d.numbers.issue ≡ Some issue
-  pub day : e ≡ record { numbers = at_issue d.numbers issue }
+  pub day : e ≡ day_with (at_issue d.numbers issue)
   pub memory_is : n ≡ m
 
 abbrev Reopening : Type 0
@@ -126,7 +124,7 @@ reopen_ends d e m n q = tested (sound_memory d.numbers (made_with d.numbers) m) 
     next : (o : Option IssueNumber) → following d.numbers.issue ≡ o → (Ok e, n) ≡ reopened_at d m o → ReopenEnds d e m n
     next None p q = ok_not_err (first q)
     next (Some issue) p q =
-        let same : ◌≡◌ {A = Result Closed (Refused Issued)} (Ok e) (Ok (record { numbers = at_issue d.numbers issue })) = first q in
+        let same : ◌≡◌ {A = Result Closed (Refused Issued)} (Ok e) (Ok (day_with (at_issue d.numbers issue))) = first q in
         record { issue = issue; follows = p; day = cc; memory_is = second q }
 
     tested : (b : Bool) → (Ok e, n) ≡ cond b (reopened_at d m (following d.numbers.issue)) (Err (record { day = d; fault = plain UnsoundMemory }), m) → ReopenEnds d e m n

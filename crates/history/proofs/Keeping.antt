@@ -30,14 +30,12 @@ use Rattle.settlement_laws.proofs.Balance.{cells_are_small}
 use Rattle.day.specs.Calls.{Parts, first_numbers, notes_to_add, with_counts, with_notes}
 use Rattle.day.specs.IssueNumbers.{following, issue_number}
 use Rattle.day.specs.Memory.{Memory, begun_with, memory}
+use Rattle.day.specs.States as day_state
+use Rattle.day.specs.States.{day_with}
 use Rattle.day.specs.Tables.{table_of}
 use Rattle.day.specs.declared.issue_number.IssueNumber.{IssueNumber}
 use Rattle.day.specs.declared.issue_number.IssueNumber.TheVariants.{FinalResettlement, Initial, InitialResettlement, IntermediateResettlement}
-use Rattle.day.specs.declared.state.Closed as closed_state
-use Rattle.day.specs.declared.state.Issued as issued_state
 use Rattle.day.specs.declared.state.Numbers.{Numbers}
-use Rattle.day.specs.declared.state.Open as open_state
-use Rattle.day.specs.declared.state.Settled as settled_state
 use Rattle.history.specs.Events.{Event, Settlement, Summary, all_notes, begun, none_yet, settled_by, summed}
 use Rattle.history.specs.Events as event
 use Rattle.history.specs.Laws.{Bear, NotesStandAndBalance, Reach, WasMade}
@@ -80,11 +78,11 @@ begun_kept r led day sound numbers none untabled unissued =
       table = λ tabled. false_not_true (sym untabled ∙ tabled);
     }
 
-pub open_kept : (r : Records) (led : List Note) → sound_records r ≡ true → Kept (begun r) (Open (record { numbers = first_numbers r })) (begun_with r led)
-open_kept r led sound = begun_kept r led (Open (record { numbers = first_numbers r })) sound refl refl refl refl
+pub open_kept : (r : Records) (led : List Note) → sound_records r ≡ true → Kept (begun r) (Open (day_with (first_numbers r))) (begun_with r led)
+open_kept r led sound = begun_kept r led (Open (day_with (first_numbers r))) sound refl refl refl refl
 
-pub load_kept : (r : Records) (led : List Note) → sound_records r ≡ true → Kept (begun r) (Closed (record { numbers = first_numbers r })) (begun_with r led)
-load_kept r led sound = begun_kept r led (Closed (record { numbers = first_numbers r })) sound refl refl refl refl
+pub load_kept : (r : Records) (led : List Note) → sound_records r ≡ true → Kept (begun r) (Closed (day_with (first_numbers r))) (begun_with r led)
+load_kept r led sound = begun_kept r led (Closed (day_with (first_numbers r))) sound refl refl refl refl
 
 -- what a call leaves alone that gives an open or a closed day, and issues nothing
 pub record Carried (s : Summary) (d : Day) (m : Memory) (s' : Summary) (d' : Day) (m' : Memory) : Type 0 where
@@ -149,8 +147,8 @@ admitted_is r bytes x item e d = go (record_refusal r item) refl (ap (λ o. and_
     go None p q = let s : ◌≡◌ {A = Result Record Fault} (Ok item) (Ok x) = rw p at q in cc
     go (Some f) p q = ok_not_err (sym (rw p at q))
 
-pub enter_kept : {s : Summary} (d : open_state.Open) (m : Memory) (bytes : List ℕ) (item : Record) → admitted m.records bytes ≡ Ok item → Kept s (Open d) m
-    → Kept (summed (event.entered bytes item) s) (Open (record { numbers = with_counts d.numbers (with_record m.records item) })) (memory (with_record m.records item) m.table m.ledger)
+pub enter_kept : {s : Summary} (d : day_state.Open) (m : Memory) (bytes : List ℕ) (item : Record) → admitted m.records bytes ≡ Ok item → Kept s (Open d) m
+    → Kept (summed (event.entered bytes item) s) (Open (day_with (with_counts d.numbers (with_record m.records item)))) (memory (with_record m.records item) m.table m.ledger)
 enter_kept {s} d m bytes item ok k =
     carried k (record { settlement = refl; last_issue = refl; issues = refl; table = refl; ledger = refl; notes = refl; made = refl; untabled = refl; unissued = refl })
     (ap (λ r. with_record r item) k.laws.records_stand)
@@ -163,7 +161,7 @@ entered_item r bytes x item e d = e ∙ ap Ok (admitted_is r bytes x item e d)
 
 -- close
 
-pub close_kept : {s : Summary} (d : open_state.Open) (m : Memory) → Kept s (Open d) m → Kept s (Closed (record { numbers = d.numbers })) m
+pub close_kept : {s : Summary} (d : day_state.Open) (m : Memory) → Kept s (Open d) m → Kept s (Closed (day_with d.numbers)) m
 close_kept {s} d m k =
     carried k (record { settlement = refl; last_issue = refl; issues = refl; table = refl; ledger = refl; notes = refl; made = refl; untabled = refl; unissued = refl })
     k.laws.records_stand k.sound k.heading k.counts
@@ -177,7 +175,7 @@ corrected_reading r reading x e = go (correction_refusal r reading) refl
     go None p = rw p refl
     go (Some f) p = ok_not_err (sym (rw p at e))
 
-pub correct_kept : {s : Summary} (d : closed_state.Closed) (m : Memory) (reading : Reading) → correction m.records reading ≡ Ok reading → Kept s (Closed d) m
+pub correct_kept : {s : Summary} (d : day_state.Closed) (m : Memory) (reading : Reading) → correction m.records reading ≡ Ok reading → Kept s (Closed d) m
     → Kept (summed (event.corrected reading) s) (Closed d) (memory (with_reading m.records reading) m.table m.ledger)
 correct_kept {s} d m reading ok k =
     let keeps = correcting_keeps_sound m.records reading k.sound ok in
@@ -186,8 +184,8 @@ correct_kept {s} d m reading ok k =
 
 -- settle
 
-pub settle_kept : {s : Summary} (d : closed_state.Closed) (m : Memory) (parts : Parts) → Accepted parts m.records → Kept s (Closed d) m
-    → Kept (summed (event.settled parts) s) (Settled (record { numbers = d.numbers })) (memory m.records (table_of (day_cell parts m.records)) m.ledger)
+pub settle_kept : {s : Summary} (d : day_state.Closed) (m : Memory) (parts : Parts) → Accepted parts m.records → Kept s (Closed d) m
+    → Kept (summed (event.settled parts) s) (Settled (day_with d.numbers)) (memory m.records (table_of (day_cell parts m.records)) m.ledger)
 settle_kept {s} d m parts a k =
     let same = k.laws.records_stand in
     let stood = k.laws.notes_stand_and_balance in
@@ -195,7 +193,7 @@ settle_kept {s} d m parts a k =
       laws = record {
         records_stand = same;
         notes_stand_and_balance = record { many = stood.many; stand = stood.stand; counted = stood.counted; bear = stood.bear; balanced = stood.balanced };
-        sheets_are_as_defined = sheets_defined (summed (event.settled parts) s) (Settled (record { numbers = d.numbers })) (memory m.records (table_of (day_cell parts m.records)) m.ledger) same k.sound;
+        sheets_are_as_defined = sheets_defined (summed (event.settled parts) s) (Settled (day_with d.numbers)) (memory m.records (table_of (day_cell parts m.records)) m.ledger) same k.sound;
         notes_reach_the_cell = record { reach = k.laws.notes_reach_the_cell.reach; one_made = λ is. false_not_true is };
       };
       sound = k.sound;
@@ -220,8 +218,8 @@ following_number FinalResettlement j e = some_not_none (sym e)
 abbrev pub at_issue : Numbers → IssueNumber → Numbers
 at_issue numbers issue = record { heading = numbers.heading; counts = numbers.counts; notes = numbers.notes; issue = issue }
 
-pub reopen_kept : {s : Summary} (d : issued_state.Issued) (m : Memory) (issue : IssueNumber) → following d.numbers.issue ≡ Some issue → Kept s (Issued d) m
-    → Kept s (Closed (record { numbers = at_issue d.numbers issue })) m
+pub reopen_kept : {s : Summary} (d : day_state.Issued) (m : Memory) (issue : IssueNumber) → following d.numbers.issue ≡ Some issue → Kept s (Issued d) m
+    → Kept s (Closed (day_with (at_issue d.numbers issue))) m
 reopen_kept {s} d m issue follows k =
     carried k (record { settlement = refl; last_issue = refl; issues = refl; table = refl; ledger = refl; notes = refl; made = following_number d.numbers.issue issue follows; untabled = refl; unissued = refl })
     k.laws.records_stand k.sound k.heading k.counts
@@ -248,7 +246,7 @@ earlier_small : (o : Settlement) (notes : List Note) → MadeOf o → Reach o no
 earlier_small none_yet notes made reach code party = rw reach (omega arith)
 earlier_small (settled_by parts r) notes a reach code party = omega (arith, ap nat_abs (reach code party), cells_are_small parts a.fair r a.sound a.borne code party)
 
-module _ {s : Summary} (d : settled_state.Settled) (m : Memory) (parts : Parts) (r : Records) (a : Accepted parts r) (by : s.settlement ≡ settled_by parts r) (fills : m.table ≡ table_of (day_cell parts r)) (k : Kept s (Settled d) m)
+module _ {s : Summary} (d : day_state.Settled) (m : Memory) (parts : Parts) (r : Records) (a : Accepted parts r) (by : s.settlement ≡ settled_by parts r) (fills : m.table ≡ table_of (day_cell parts r)) (k : Kept s (Settled d) m)
     (fits : d.numbers.notes + length (notes_to_add d.numbers m) ≤ length m.ledger) where
   abbrev count : ℕ
   count = d.numbers.notes
@@ -266,7 +264,7 @@ module _ {s : Summary} (d : settled_state.Settled) (m : Memory) (parts : Parts) 
   left = memory m.records m.table (issue_leaves m.ledger count new)
 
   abbrev issued_day : Day
-  issued_day = Issued (record { numbers = with_notes d.numbers (length new) })
+  issued_day = Issued (day_with (with_notes d.numbers (length new)))
 
   stood : NotesStandAndBalance s (Settled d) m
   stood = k.laws.notes_stand_and_balance

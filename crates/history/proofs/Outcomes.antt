@@ -1,5 +1,5 @@
 -- What the answer of a call tells of how it went.
-use Rattle.std.proofs.Common.{◌≡◌, ℕ, Bool, true, false, cond, Some, None, Ok, Err, Option, Result, sym, refl, ap, arith}
+use Rattle.std.proofs.Common.{◌≡◌, ℕ, Bool, true, false, cond, Some, None, Ok, Err, Option, Result, is_ok, sym, refl, ap, ◌∙◌, arith, MatchResult}
 use Rattle.faults.specs.declared.fault.Fault.{Fault}
 use Rattle.day.specs.Calls.{fault_in, given}
 use Rattle.day.specs.declared.refused.Refused.{Refused}
@@ -7,6 +7,14 @@ use Rattle.day.specs.declared.refused.Refused.{Refused}
 -- two answers of different kinds are not one
 pub ok_not_err : {A B : Type 0} {a : A} {b : B} {X : Type 0} → ◌≡◌ {A = Result A B} (Ok a) (Err b) → X
 ok_not_err {A} {B} {a} {b} e = let z : ◌≡◌ {A = ℕ} 0 1 = cc in absurd (omega arith)
+
+-- an Ok that is left once the error was mapped was there before
+pub unmapped : {T E D : Type 0} (Q : E → Type 0) (r : Result T E) (s : Result T D) (x : T) → s ≡ Ok x → is_ok s ≡ is_ok r → MatchResult r (λ y. s ≡ Ok y) Q → r ≡ Ok x
+unmapped Q (Ok y) s x is same was = cc
+unmapped Q (Err e) s x is same was =
+    let no : true ≡ false = sym (ap is_ok is) ∙ same in
+    let z : ◌≡◌ {A = ℕ} 0 1 = cc in
+    absurd (omega arith)
 
 pub some_not_none : {A : Type 0} {a : A} {X : Type 0} → ◌≡◌ {A = Option A} (Some a) None → X
 some_not_none {A} {a} e = let z : ◌≡◌ {A = ℕ} 0 1 = cc in absurd (omega arith)

@@ -5,18 +5,17 @@ use Rattle.faults.specs.declared.fault.Fault.{Fault}
 use Rattle.codes.specs.declared.table.Table.{Table}
 use Rattle.day.specs.Calls.{Parts, given}
 use Rattle.day.specs.Memory.{Memory}
+use Rattle.day.specs.States.{Open}
 use Rattle.day.specs.declared.refused.Refused.{Refused}
-use Rattle.history.specs.Events.{Call, Event, Lent, answer_of, answers_of, call_of, calls_of, lent_after, lent_in, takes}
+use Rattle.history.specs.Events.{Answer, Call, Event, Lent, answer_of, answers_of, call_of, calls_of, lent_after, lent_in, takes}
 use Rattle.history.specs.Histories.{Does, History, next}
 use Rattle.history.specs.Replays.{RanOn, Replayed, Stepped, Stopped, call_in, calls_in, first_call}
 use Rattle.history.specs.declared.states.Day.{Day}
-use Rattle.history.specs.declared.steps.Answer.{Answer}
-use Rattle.history.specs.declared.steps.Answer.TheVariants.{Done}
+use Rattle.history.specs.declared.steps.Outcome.TheVariants.{Done}
 use Rattle.history.specs.declared.steps.Begin.{Begin}
 use Rattle.history.specs.declared.states.Day.TheVariants.{Open as DayOpen}
 use Rattle.history.specs.declared.steps.Step.{Step}
 use Rattle.history.specs.declared.steps.Step.TheVariants.{Close, Correct, Enter, Issue, Reopen, Settle, Sheet, Statement}
-use Rattle.day.specs.declared.state.Open.{Open}
 use Rattle.history.proofs.Outcomes.{was_refused, went_well}
 use Rattle.history.proofs.Theorem.{always}
 
@@ -84,14 +83,14 @@ module _ {R : Type 0} (parts : R → Parts) (room : ℕ) where
 
   -- the end of a replay
   pub ran_on : (start : Begin) (steps : List (Step R)) (m : Memory) (before : Lent) (d e : Day) (answers : List Answer) (n k : Memory) (now after : Lent) (entries i : ℕ) → room ≡ length before.buffer → entries ≡ length m.ledger → i ≡ length answers
-      → Replayed (first_call start entries ∷ calls_in parts room (take i steps)) (Done ∷ answers) d n before now → e ≡ d → k ≡ n → after ≡ now → Stopped (calls_in parts room (drop i steps)) d
+      → Replayed (first_call start entries ∷ calls_in parts room (take i steps)) (Ok Done ∷ answers) d n before now → e ≡ d → k ≡ n → after ≡ now → Stopped (calls_in parts room (drop i steps)) d
       → RanOn parts start steps m before e answers k after
   ran_on start steps m before d e answers n k now after entries i wide size many r same-day same_memory same-lent stopped =
       let calls : first_call start entries ∷ calls_in parts room (take i steps) ≡ first_call start (length m.ledger) ∷ calls_in parts (length before.buffer) (take (length answers) steps) =
       ap (λ x. first_call start x ∷ calls_in parts room (take i steps)) size ∙ ap (λ x. first_call start (length m.ledger) ∷ calls_in parts x (take i steps)) wide
       ∙ ap (λ x. first_call start (length m.ledger) ∷ calls_in parts (length before.buffer) (take x steps)) many in
-      let history : Replayed (first_call start (length m.ledger) ∷ calls_in parts (length before.buffer) (take (length answers) steps)) (Done ∷ answers) d n before now =
-      subst (λ (cs : List Call). Replayed cs (Done ∷ answers) d n before now) calls r in
+      let history : Replayed (first_call start (length m.ledger) ∷ calls_in parts (length before.buffer) (take (length answers) steps)) (Ok Done ∷ answers) d n before now =
+      subst (λ (cs : List Call). Replayed cs (Ok Done ∷ answers) d n before now) calls r in
       record {
         history = replayed_at same-day same_memory same-lent history;
         stopped = subst (λ (x : Day). Stopped (calls_in parts (length before.buffer) (drop (length answers) steps)) x) (sym same-day)

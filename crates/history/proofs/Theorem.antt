@@ -12,10 +12,9 @@ use Rattle.loading.specs.Loading.{file_records, load_leaves}
 use Rattle.loading.proofs.Whole.{loaded_is_sound}
 use Rattle.day.specs.Calls.{first_numbers, load_answer, notes_to_add, opened_with, with_counts, with_notes}
 use Rattle.day.specs.Memory.{Memory, begun_with, memory}
-use Rattle.day.specs.declared.state.Closed as closed_state
-use Rattle.day.specs.declared.state.Open as open_state
-use Rattle.day.specs.declared.state.Settled as settled_state
-use Rattle.day.proofs.Beginning.{closed_with, left_by_load, open_with}
+use Rattle.day.specs.States as day_state
+use Rattle.day.specs.States.{day_with}
+use Rattle.day.proofs.Beginning.{left_by_load}
 use Rattle.history.specs.Events.{Event, Settlement, Summary, begun, none_yet, settled_by, summary, summed}
 use Rattle.history.specs.Events as event
 use Rattle.history.specs.Histories.{Does, History, closes, closes_not, corrects, corrects_not, enters, enters_not, issues, issues_not, loads, next, opens, reopens, reopens_not, settles, settles_not, sheets, sheets_not, states, states_not}
@@ -32,13 +31,13 @@ kept_at : {s : Summary} {d e : Day} {m n : Memory} → e ≡ d → n ≡ m → K
 kept_at {s} {d} {e} {m} {n} p q k = subst (λ (x : Memory). Kept s e x) (sym q) (subst (λ (x : Day). Kept s x m) (sym p) k)
 
 -- an issue, by the settlement that it is of
-issue_made : {s : Summary} (d : settled_state.Settled) (m : Memory) → d.numbers.notes + length (notes_to_add d.numbers m) ≤ length m.ledger → Kept s (Settled d) m
-    → Kept (summed (event.issued (notes_to_add d.numbers m)) s) (Issued (record { numbers = with_notes d.numbers (length (notes_to_add d.numbers m)) }))
+issue_made : {s : Summary} (d : day_state.Settled) (m : Memory) → d.numbers.notes + length (notes_to_add d.numbers m) ≤ length m.ledger → Kept s (Settled d) m
+    → Kept (summed (event.issued (notes_to_add d.numbers m)) s) (Issued (day_with (with_notes d.numbers (length (notes_to_add d.numbers m)))))
     (memory m.records m.table (issue_leaves m.ledger d.numbers.notes (notes_to_add d.numbers m)))
 issue_made {s} d m fits k = go s.settlement refl (k.table refl) k.settlement
   where
     go : (o : Settlement) → s.settlement ≡ o → Fills o m.table → MadeOf o
-        → Kept (summed (event.issued (notes_to_add d.numbers m)) s) (Issued (record { numbers = with_notes d.numbers (length (notes_to_add d.numbers m)) }))
+        → Kept (summed (event.issued (notes_to_add d.numbers m)) s) (Issued (day_with (with_notes d.numbers (length (notes_to_add d.numbers m)))))
         (memory m.records m.table (issue_leaves m.ledger d.numbers.notes (notes_to_add d.numbers m)))
     go none_yet p fills made = absurd fills
     go (settled_by parts r) p fills made = issue_kept d m parts r made p fills k fits
@@ -52,7 +51,7 @@ does_kept (enters d e m n bytes item q decoded) k =
     let went = went_well _ _ _ _ _ _ _ q in
     let found = in_order (admitted m.records bytes) (nothing_against _ _ _ went.0).1 in
     let ok = entered_item m.records bytes found.0 item found.1 decoded in
-    kept_at (ap Open (went.1 ∙ ap (λ o. open_with (with_counts d.numbers (entered m.records o))) ok))
+    kept_at (ap Open (went.1 ∙ ap (λ o. day_with (with_counts d.numbers (entered m.records o))) ok))
     (went.2 ∙ ap (λ o. memory (entered m.records o) m.table m.ledger) ok)
     (enter_kept d m bytes item ok k)
 does_kept (enters_not d r m n bytes q) k = let went = was_refused _ _ _ _ _ _ _ q in kept_at (ap Open went.1) went.2 k
@@ -86,23 +85,23 @@ does_kept (reopens_not d r m n q) k = let went = reopen_refused d r m n q in kep
 -- beginnings
 
 abbrev Opening : Type 0
-Opening = Result open_state.Open Fault × Memory
+Opening = Result day_state.Open Fault × Memory
 
 abbrev Loading : Type 0
-Loading = Result closed_state.Closed Fault × Memory
+Loading = Result day_state.Closed Fault × Memory
 
-opened_kept : (m n : Memory) (bytes : List ℕ) (d : open_state.Open) (heading : Heading) → ◌≡◌ {A = Opening} (Ok d, n) (opened_with m (Ok heading))
+opened_kept : (m n : Memory) (bytes : List ℕ) (d : day_state.Open) (heading : Heading) → ◌≡◌ {A = Opening} (Ok d, n) (opened_with m (Ok heading))
     → Kept (begun (no_records heading)) (Open d) n
 opened_kept m n bytes d heading q =
-    let same : ◌≡◌ {A = Result open_state.Open Fault} (Ok d) (Ok (open_with (first_numbers (no_records heading)))) = ap (λ (z : Opening). z.0) q in
-    let is : d ≡ open_with (first_numbers (no_records heading)) = cc in
+    let same : ◌≡◌ {A = Result day_state.Open Fault} (Ok d) (Ok (day_with (first_numbers (no_records heading)))) = ap (λ (z : Opening). z.0) q in
+    let is : d ≡ day_with (first_numbers (no_records heading)) = cc in
     kept_at (ap Open is) (ap (λ (z : Opening). z.1) q) (open_kept (no_records heading) m.ledger (opened_is_sound heading))
 
-loaded_kept : (m n : Memory) (file : List ℕ) (d : closed_state.Closed) (r : Records) → file_records file ≡ Ok r
+loaded_kept : (m n : Memory) (file : List ℕ) (d : day_state.Closed) (r : Records) → file_records file ≡ Ok r
     → ◌≡◌ {A = Loading} (Ok d, n) (load_answer (Ok r), begun_with (load_leaves m.records file) m.ledger) → Kept (begun r) (Closed d) n
 loaded_kept m n file d r whole q =
-    let same : ◌≡◌ {A = Result closed_state.Closed Fault} (Ok d) (Ok (closed_with (first_numbers r))) = ap (λ (z : Loading). z.0) q in
-    let is : d ≡ closed_with (first_numbers r) = cc in
+    let same : ◌≡◌ {A = Result day_state.Closed Fault} (Ok d) (Ok (day_with (first_numbers r))) = ap (λ (z : Loading). z.0) q in
+    let is : d ≡ day_with (first_numbers r) = cc in
     kept_at (ap Closed is) (ap (λ (z : Loading). z.1) q ∙ ap (λ x. begun_with x m.ledger) (left_by_load m.records file r whole))
     (load_kept r m.ledger (loaded_is_sound file r whole).0)
 

@@ -1,5 +1,5 @@
 -- The calls of a history, how each ended, and what one reads off them.
-use Rattle.std.specs.Prelude.{ℕ, Bool, false, List, [], ◌∷◌, ◌++◌, length, drop}
+use Rattle.std.specs.Prelude.{ℕ, Bool, false, List, [], ◌∷◌, ◌++◌, length, drop, Ok, Err, Result}
 use Rattle.std.specs.List.{flat_map}
 use Rattle.faults.specs.declared.fault.Fault.{Fault}
 use Rattle.dayfile.specs.Records.{Records}
@@ -13,8 +13,8 @@ use Rattle.ledger.specs.declared.note.Note.{Note}
 use Rattle.day.specs.Calls.{Parts}
 use Rattle.history.specs.States.{has_table, is_closed, is_issued, is_open, is_settled}
 use Rattle.history.specs.declared.states.Day.{Day}
-use Rattle.history.specs.declared.steps.Answer.{Answer}
-use Rattle.history.specs.declared.steps.Answer.TheVariants.{Added, Done, Refused, Written}
+use Rattle.history.specs.declared.steps.Outcome.{Outcome}
+use Rattle.history.specs.declared.steps.Outcome.TheVariants.{Added, Done, Written}
 
 -- A call, by what it is given besides the day and what the day's memory holds: the bytes of a record or a file, a reading,
 -- a rule by its meaning. A history begins with opening or loading, into a ledger of so many entries; stating has a buffer
@@ -72,19 +72,23 @@ takes day issuing = is_settled day
 takes day (stating number room) = is_issued day
 takes day reopening = is_issued day
 
+-- what a call answers: what it did, or the fault
+abbrev pub Answer : Type 0
+Answer = Result Outcome Fault
+
 -- what the call answered
 abbrev pub answer_of : Event → Answer
-answer_of (opened bytes entries heading) = Done
-answer_of (loaded file entries records) = Done
-answer_of (entered bytes item) = Done
-answer_of (closed bytes) = Done
-answer_of (corrected reading) = Done
-answer_of (settled parts) = Done
-answer_of (sheeted hour parts page) = Done
-answer_of (issued notes) = Added (length notes)
-answer_of (stated number room text) = Written (length text)
-answer_of reopened = Done
-answer_of (refused call fault) = Refused fault
+answer_of (opened bytes entries heading) = Ok Done
+answer_of (loaded file entries records) = Ok Done
+answer_of (entered bytes item) = Ok Done
+answer_of (closed bytes) = Ok Done
+answer_of (corrected reading) = Ok Done
+answer_of (settled parts) = Ok Done
+answer_of (sheeted hour parts page) = Ok Done
+answer_of (issued notes) = Ok (Added (length notes))
+answer_of (stated number room text) = Ok (Written (length text))
+answer_of reopened = Ok Done
+answer_of (refused call fault) = Err fault
 
 -- the page and the buffer that are lent to sheets and statements
 pub record Lent : Type 0 where

@@ -3,17 +3,15 @@ use Rattle.std.specs.Prelude.{◌≡◌, ℕ, false, List, [], ◌∷◌, map, l
 use Rattle.faults.specs.declared.fault.Fault.{Fault}
 use Rattle.day.specs.Calls.{Parts, load_gives, open_gives}
 use Rattle.day.specs.Memory.{Memory}
-use Rattle.history.specs.Events.{Call, Event, Lent, answer_of, answers_of, call_of, calls_of, closing, correcting, entering, issuing, lent_after, lent_in, loading, opening, reopening, settling, sheeting, stating, takes}
+use Rattle.history.specs.Events.{Answer, Call, Event, Lent, answer_of, answers_of, call_of, calls_of, closing, correcting, entering, issuing, lent_after, lent_in, loading, opening, reopening, settling, sheeting, stating, takes}
 use Rattle.history.specs.Histories.{Does, History, next}
 use Rattle.history.specs.Laws.{Always}
 use Rattle.history.specs.declared.states.Day.{Day}
-use Rattle.history.specs.declared.steps.Advance.{Advance}
-use Rattle.history.specs.declared.steps.Advance.TheVariants.{Made, NotTaken}
 use Rattle.history.specs.declared.steps.NotBegun.{NotBegun}
 use Rattle.history.specs.declared.steps.NotBegun.TheVariants.{NoMemory, Refused}
+use Rattle.history.specs.declared.steps.NotTaken.{NotTaken}
+use Rattle.history.specs.declared.steps.Outcome.TheVariants.{Done}
 use Rattle.history.specs.declared.steps.Replay.{Replay}
-use Rattle.history.specs.declared.steps.Answer.{Answer}
-use Rattle.history.specs.declared.steps.Answer.TheVariants.{Done}
 use Rattle.history.specs.declared.steps.Begin.{Begin}
 use Rattle.history.specs.declared.steps.Begin.TheVariants.{Load, Open}
 use Rattle.history.specs.declared.steps.Step.{Step}
@@ -65,9 +63,9 @@ pub record Stepped (call : Call) (answer : Answer) (day : Day) (m : Memory) (bef
   pub lawful : (events : List Event) (history : History events day m) → Always (next history does)
 
 -- a step was made; or the state of the day does not take it, and all is as it was
-abbrev pub Advanced : Call → Day → Memory → Lent → Advance → Memory → Lent → Type 0
-Advanced call day m before (Made next-day answer) n after = Stepped call answer day m before next-day n after
-Advanced call day m before (NotTaken same) n after = (same ≡ day) × (n ≡ m) × (after ≡ before) × (takes day call ≡ false)
+abbrev pub Advanced : Call → Day → Memory → Lent → Result (Day × Answer) NotTaken → Memory → Lent → Type 0
+Advanced call day m before (Ok made) n after = Stepped call made.1 day m before made.0 n after
+Advanced call day m before (Err not_taken) n after = (not_taken.0 ≡ day) × (n ≡ m) × (after ≡ before) × (takes day call ≡ false)
 
 -- the calls that were not made begin with one that the state of the day does not take
 abbrev pub Stopped : List Call → Day → Type 0
@@ -76,14 +74,14 @@ Stopped (call ∷ calls) day = takes day call ≡ false
 
 -- a history begins, and leaves the page and the buffer alone; or its beginning is refused
 abbrev pub Begun : Begin → Memory → Result Day Fault → Memory → Type 0
-Begun start m (Ok day) n = (l : Lent) → Replayed (first_call start (length m.ledger) ∷ []) (Done ∷ []) day n l l
+Begun start m (Ok day) n = (l : Lent) → Replayed (first_call start (length m.ledger) ∷ []) (Ok Done ∷ []) day n l l
 Begun start m (Err fault) n = RefusedAt start m fault n
 
 module _ {R : Type 0} (parts : R → Parts) (start : Begin) (steps : List (Step R)) (m : Memory) (before : Lent) where
   -- The steps that were made, as many as there are answers, are a history that ends in exactly this day and memory, and the
   -- laws held each time one of them ended. The first step that was not made is one that the state of the day does not take.
   pub record RanOn (day : Day) (answers : List Answer) (n : Memory) (after : Lent) : Type 0 where
-    pub history : Replayed (first_call start (length m.ledger) ∷ calls_in parts (length before.buffer) (take (length answers) steps)) (Done ∷ answers) day n before after
+    pub history : Replayed (first_call start (length m.ledger) ∷ calls_in parts (length before.buffer) (take (length answers) steps)) (Ok Done ∷ answers) day n before after
     pub stopped : Stopped (calls_in parts (length before.buffer) (drop (length answers) steps)) day
 
   -- what a replay comes to: a history, or a beginning that is refused, or want of memory before anything was done

@@ -7,7 +7,7 @@ ghost use Rattle.history.specs.Events.{lent};
 ghost use Rattle.history.specs.Replays.{Advanced, Begun, call_in};
 
 use crate::states::Day;
-use crate::steps::{Advance, Answer, Begin, Step};
+use crate::steps::{Answer, Begin, NotTaken, Outcome, Step};
 use book::book::Book;
 use codes::table::Table;
 use day::corrections::correct;
@@ -23,36 +23,6 @@ use faults::fault::Fault;
 use ledger::note::Note;
 use sharing::rule::Sharing;
 
-// Opens a day.
-fn begin_open(
-    bytes: &[u8],
-    book: &mut Book,
-    table: &mut Table,
-    ledger: &mut [Note],
-) -> Result<Day, Fault>
-    ensures { Begun (Begin.Open bytes.entry) (memory (held book.old) table.old ledger.old) result (memory (held book.new) table.new ledger.new) }
-{
-    match open(bytes, book, table, ledger) {
-        Ok(day) => Ok(Day::Open(day)),
-        Err(fault) => Err(fault),
-    }
-}
-
-// Loads a day.
-fn begin_load(
-    file: &[u8],
-    book: &mut Book,
-    table: &mut Table,
-    ledger: &mut [Note],
-) -> Result<Day, Fault>
-    ensures { Begun (Begin.Load file.entry) (memory (held book.old) table.old ledger.old) result (memory (held book.new) table.new ledger.new) }
-{
-    match load(file, book, table, ledger) {
-        Ok(day) => Ok(Day::Closed(day)),
-        Err(fault) => Err(fault),
-    }
-}
-
 // The call that a history begins with.
 pub fn begin<'a>(
     start: &Begin<'a>,
@@ -63,37 +33,32 @@ pub fn begin<'a>(
     ensures { Begun start.now (memory (held book.old) table.old ledger.old) result (memory (held book.new) table.new ledger.new) }
 {
     match start {
-        Begin::Open(bytes) => begin_open(bytes, book, table, ledger),
-        Begin::Load(file) => begin_load(file, book, table, ledger),
+        Begin::Open(bytes) => Ok(Day::Open(open(bytes, book, table, ledger)?)),
+        Begin::Load(file) => Ok(Day::Closed(load(file, book, table, ledger)?)),
     }
 }
 
-// A step of an open day.
+// A step of an open day. A step is data, and the day's state decides which are taken. Each arm names the state that it leads
+// to, here and below, which a helper for all would hide.
 fn advance_open<'a, R: Sharing>(
     day: Open,
     step: &Step<'a, R>,
     book: &mut Book,
     table: &Table,
     ledger: &[Note],
-) -> Advance
+) -> Result<(Day, Answer), NotTaken>
     ensures { (page : Table) (buffer : List ℕ) → Advanced (call_in R.Sharing.parts (length buffer) step.now) (Day.Open day) (memory (held book.old) table.now ledger.now) (lent page buffer) result (memory (held book.new) table.now ledger.now) (lent page buffer) }
 {
     match step {
         Step::Enter(bytes) => match enter(day, bytes, book, table, ledger) {
-            Ok(day) => Advance::Made(Day::Open(day), Answer::Done),
-            Err(refused) => {
-                let Refused { day, fault } = refused;
-                Advance::Made(Day::Open(day), Answer::Refused(fault))
-            }
+            Ok(day) => Ok((Day::Open(day), Ok(Outcome::Done))),
+            Err(Refused { day, fault }) => Ok((Day::Open(day), Err(fault))),
         },
         Step::Close(bytes) => match close(day, bytes, book, table, ledger) {
-            Ok(day) => Advance::Made(Day::Closed(day), Answer::Done),
-            Err(refused) => {
-                let Refused { day, fault } = refused;
-                Advance::Made(Day::Open(day), Answer::Refused(fault))
-            }
+            Ok(day) => Ok((Day::Closed(day), Ok(Outcome::Done))),
+            Err(Refused { day, fault }) => Ok((Day::Open(day), Err(fault))),
         },
-        _ => Advance::NotTaken(Day::Open(day)),
+        _ => Err(NotTaken(Day::Open(day))),
     }
 }
 
@@ -104,25 +69,19 @@ fn advance_closed<'a, R: Sharing>(
     book: &mut Book,
     table: &mut Table,
     ledger: &[Note],
-) -> Advance
+) -> Result<(Day, Answer), NotTaken>
     ensures { (page : Table) (buffer : List ℕ) → Advanced (call_in R.Sharing.parts (length buffer) step.now) (Day.Closed day) (memory (held book.old) table.old ledger.now) (lent page buffer) result (memory (held book.new) table.new ledger.now) (lent page buffer) }
 {
     match step {
         Step::Correct(reading) => match correct(day, *reading, book, table, ledger) {
-            Ok(day) => Advance::Made(Day::Closed(day), Answer::Done),
-            Err(refused) => {
-                let Refused { day, fault } = refused;
-                Advance::Made(Day::Closed(day), Answer::Refused(fault))
-            }
+            Ok(day) => Ok((Day::Closed(day), Ok(Outcome::Done))),
+            Err(Refused { day, fault }) => Ok((Day::Closed(day), Err(fault))),
         },
         Step::Settle(rule) => match settle(day, *rule, book, table, ledger) {
-            Ok(day) => Advance::Made(Day::Settled(day), Answer::Done),
-            Err(refused) => {
-                let Refused { day, fault } = refused;
-                Advance::Made(Day::Closed(day), Answer::Refused(fault))
-            }
+            Ok(day) => Ok((Day::Settled(day), Ok(Outcome::Done))),
+            Err(Refused { day, fault }) => Ok((Day::Closed(day), Err(fault))),
         },
-        _ => Advance::NotTaken(Day::Closed(day)),
+        _ => Err(NotTaken(Day::Closed(day))),
     }
 }
 
@@ -134,28 +93,19 @@ fn advance_settled<'a, R: Sharing>(
     table: &Table,
     ledger: &mut [Note],
     page: &mut Table,
-) -> Advance
+) -> Result<(Day, Answer), NotTaken>
     ensures { (buffer : List ℕ) → Advanced (call_in R.Sharing.parts (length buffer) step.now) (Day.Settled day) (memory (held book.now) table.now ledger.old) (lent page.old buffer) result (memory (held book.now) table.now ledger.new) (lent page.new buffer) }
 {
     match step {
         Step::Sheet { hour, rule } => match sheet(day, *hour, *rule, book, table, ledger, page) {
-            Ok(day) => Advance::Made(Day::Settled(day), Answer::Done),
-            Err(refused) => {
-                let Refused { day, fault } = refused;
-                Advance::Made(Day::Settled(day), Answer::Refused(fault))
-            }
+            Ok(day) => Ok((Day::Settled(day), Ok(Outcome::Done))),
+            Err(Refused { day, fault }) => Ok((Day::Settled(day), Err(fault))),
         },
         Step::Issue => match issue(day, book, table, ledger) {
-            Ok(issued) => {
-                let (day, added) = issued;
-                Advance::Made(Day::Issued(day), Answer::Added(added))
-            }
-            Err(refused) => {
-                let Refused { day, fault } = refused;
-                Advance::Made(Day::Settled(day), Answer::Refused(fault))
-            }
+            Ok((day, added)) => Ok((Day::Issued(day), Ok(Outcome::Added(added)))),
+            Err(Refused { day, fault }) => Ok((Day::Settled(day), Err(fault))),
         },
-        _ => Advance::NotTaken(Day::Settled(day)),
+        _ => Err(NotTaken(Day::Settled(day))),
     }
 }
 
@@ -168,39 +118,28 @@ fn advance_issued<'a, R: Sharing>(
     ledger: &[Note],
     page: &mut Table,
     buffer: &mut [u8],
-) -> Advance
+) -> Result<(Day, Answer), NotTaken>
     ensures { Advanced (call_in R.Sharing.parts (length buffer.old) step.now) (Day.Issued day) (memory (held book.now) table.now ledger.now) (lent page.old buffer.old) result (memory (held book.now) table.now ledger.now) (lent page.new buffer.new) }
 {
     match step {
         Step::Sheet { hour, rule } => match sheet(day, *hour, *rule, book, table, ledger, page) {
-            Ok(day) => Advance::Made(Day::Issued(day), Answer::Done),
-            Err(refused) => {
-                let Refused { day, fault } = refused;
-                Advance::Made(Day::Issued(day), Answer::Refused(fault))
-            }
+            Ok(day) => Ok((Day::Issued(day), Ok(Outcome::Done))),
+            Err(Refused { day, fault }) => Ok((Day::Issued(day), Err(fault))),
         },
         Step::Statement(number) => match statement(day, *number, book, table, ledger, buffer) {
-            Ok(stated) => {
-                let (day, length) = stated;
-                Advance::Made(Day::Issued(day), Answer::Written(length))
-            }
-            Err(refused) => {
-                let Refused { day, fault } = refused;
-                Advance::Made(Day::Issued(day), Answer::Refused(fault))
-            }
+            Ok((day, length)) => Ok((Day::Issued(day), Ok(Outcome::Written(length)))),
+            Err(Refused { day, fault }) => Ok((Day::Issued(day), Err(fault))),
         },
         Step::Reopen => match reopen(day, book, table, ledger) {
-            Ok(day) => Advance::Made(Day::Closed(day), Answer::Done),
-            Err(refused) => {
-                let Refused { day, fault } = refused;
-                Advance::Made(Day::Issued(day), Answer::Refused(fault))
-            }
+            Ok(day) => Ok((Day::Closed(day), Ok(Outcome::Done))),
+            Err(Refused { day, fault }) => Ok((Day::Issued(day), Err(fault))),
         },
-        _ => Advance::NotTaken(Day::Issued(day)),
+        _ => Err(NotTaken(Day::Issued(day))),
     }
 }
 
 // One call more: makes the step, where the day's state takes it. A refused call is a step that was made.
+// What the calls work on is lent part by part, as they take it: a struct of `&mut`s would be taken apart for each of them.
 pub fn advance<'a, R: Sharing>(
     day: Day,
     step: &Step<'a, R>,
@@ -209,7 +148,7 @@ pub fn advance<'a, R: Sharing>(
     ledger: &mut [Note],
     page: &mut Table,
     buffer: &mut [u8],
-) -> Advance
+) -> Result<(Day, Answer), NotTaken>
     ensures { Advanced (call_in R.Sharing.parts (length buffer.old) step.now) day (memory (held book.old) table.old ledger.old) (lent page.old buffer.old) result (memory (held book.new) table.new ledger.new) (lent page.new buffer.new) }
 {
     match day {

@@ -8,14 +8,15 @@ ghost use Rattle.history.specs.Replays.{Ran};
 
 use crate::advance::{advance, begin};
 use crate::laws::histories_keep_the_laws;
-use crate::steps::{Advance, Answer, Begin, NotBegun, Replay, Step};
+use crate::steps::{Answer, Begin, NotBegun, NotTaken, Replay, Step};
 use book::book::Book;
 use codes::table::Table;
 use ledger::note::Note;
 use sharing::rule::Sharing;
 use std::alloc::Global;
 
-// Makes the steps in turn after a beginning, up to the first that the day's state does not take.
+// Makes the steps in turn after a beginning, up to the first that the day's state does not take. Book, table, ledger, page and
+// buffer are lent apart, as `advance` takes them.
 fn make_steps<'a, R: Sharing>(
     start: &Begin<'a>,
     answers: Vec<Answer>,
@@ -31,17 +32,17 @@ fn make_steps<'a, R: Sharing>(
     ensures { Ran R.Sharing.parts start.now steps.now (memory (held book.old) table.old ledger.old) (lent page.old buffer.old) result (memory (held book.new) table.new ledger.new) (lent page.new buffer.new) }
 {
     let mut answers = answers;
-    let mut day = match begin(start, book, table, ledger) {
-        Ok(day) => day,
-        Err(fault) => return Err(NotBegun::Refused(fault)),
-    };
+    let mut day = begin(start, book, table, ledger).map_err(NotBegun::Refused)?;
     for step in steps {
         match advance(day, step, book, table, ledger, page, buffer) {
-            Advance::Made(next, answer) => {
+            // Tried: `Ok((next, answer))`. The borrow checker does not cover a pattern that reaches further in here.
+            Ok(made) => {
+                let (next, answer) = made;
                 day = next;
                 answers.push_reserved(answer);
             }
-            Advance::NotTaken(same) => {
+            Err(not_taken) => {
+                let NotTaken(same) = not_taken;
                 return Ok(Replay { day: same, answers });
             }
         }
@@ -63,9 +64,7 @@ pub fn replay<'a, R: Sharing>(
     ensures run { Ran R.Sharing.parts start.now steps.now (memory (held book.old) table.old ledger.old) (lent page.old buffer.old) result (memory (held book.new) table.new ledger.new) (lent page.new buffer.new) }
     ensures every { EveryHistoryKeepsTheLaws }
 {
-    let _ = histories_keep_the_laws();
-    match Vec::with_capacity(heap, steps.len()) {
-        Ok(answers) => make_steps(start, answers, steps, book, table, ledger, page, buffer),
-        Err(e) => Err(NotBegun::NoMemory(e)),
-    }
+    histories_keep_the_laws();
+    let answers = Vec::with_capacity(heap, steps.len()).map_err(NotBegun::NoMemory)?;
+    make_steps(start, answers, steps, book, table, ledger, page, buffer)
 }

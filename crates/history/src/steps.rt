@@ -20,26 +20,26 @@ pub enum Step<'a, R> {
     Settle(&'a R),
     Sheet { hour: u8, rule: &'a R },
     Issue,
+    // By number: one that names no issue is refused.
     Statement(u8),
     Reopen,
 }
 
-// What a call answered.
+// What an accepted call did.
 #[derive(Clone, Copy)]
-pub enum Answer {
+pub enum Outcome {
     Done,
     // An issue, which added so many notes.
     Added(usize),
     // A statement, of so many bytes.
     Written(usize),
-    Refused(Fault),
 }
 
-// What came of a step: the day after it with the answer, or the day as it was, whose state does not take the step.
-pub enum Advance {
-    Made(Day, Answer),
-    NotTaken(Day),
-}
+// What a call answered: what it did, or why it was refused.
+pub type Answer = Result<Outcome, Fault>;
+
+// A step that the state of the day does not take gives the day back as it was.
+pub struct NotTaken(pub Day);
 
 // The day that a replay ended with, and the answers of the steps that were made.
 pub struct Replay {

@@ -14,6 +14,7 @@ fn run_lines(rt: &HostRuntime, script: &[u8]) -> anyhow::Result<()> {
     let mut replay = Replay::new(rt.alloc())?;
     let mut out = BufWriter::new(rt.alloc(), rt.stdout())?;
     let mut rest = script;
+    // By `cut_line`, which takes a line off the front of what is left.
     while !rest.is_empty() {
         let (line, after) = cut_line(rest);
         replay.run_line(rt, line, &mut out)?;

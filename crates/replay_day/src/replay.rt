@@ -1,11 +1,11 @@
 // A script as it is run: the day, its memory, and the sizes that the next one gets.
-use crate::answers::{print_line, print_refused, print_text};
+use crate::answers::{print_line, print_refused};
 use crate::held::Held;
 use crate::memory::{FIRST_SIZES, Memory, Sizes};
 use history::advance::{advance, begin};
-use history::steps::{Advance, Answer, Begin, Step};
+use history::steps::{Answer, Begin, NotTaken, Outcome, Step};
 use script::command::{Call, Command, command_of};
-use script::hex::bytes_of;
+use script::hexadecimal::bytes_of;
 use script::sheet::{SHEET_ROOM, put_sheet};
 use script::words::words_of;
 use sharing::choice::Rule;
@@ -27,13 +27,8 @@ fn read_file(rt: &HostRuntime, path: &[u8]) -> anyhow::Result<Option<Vec<u8>>> {
     };
     match fs::read(rt, path) {
         Ok(bytes) => Ok(Some(bytes)),
-        Err(error) => {
-            if error.kind() == io::ErrorKind::OutOfMemory {
-                Err(error.into())
-            } else {
-                Ok(None)
-            }
-        }
+        Err(error) if error.kind() == io::ErrorKind::OutOfMemory => Err(error.into()),
+        Err(_) => Ok(None),
     }
 }
 
@@ -49,7 +44,7 @@ fn bytes_for(rt: &HostRuntime, command: &Command<'_>) -> anyhow::Result<Option<V
     }
 }
 
-// The step of a history that a call is.
+// The step of a history that a call is. They are two, as a script is read before it is run.
 fn step_of<'a>(call: &'a Call<'a>, bytes: &'a [u8]) -> Step<'a, Rule> {
     match call {
         Call::Enter(_) => Step::Enter(bytes),
@@ -85,7 +80,7 @@ impl Replay {
         ) {
             Ok(day) => {
                 self.day.put(day);
-                print_text(out, b"OK\n")
+                Ok(out.write_all(b"OK\n")?)
             }
             Err(fault) => print_refused(out, &fault),
         }
@@ -104,11 +99,14 @@ impl Replay {
             &mut memory.page,
             memory.buffer.as_mut_slice(),
         ) {
-            Advance::Made(day, answer) => {
+            // In steps: the borrow checker does not cover a pattern that reaches further in here.
+            Ok(made) => {
+                let (day, answer) = made;
                 self.day.put(day);
                 Some(answer)
             }
-            Advance::NotTaken(day) => {
+            Err(not_taken) => {
+                let NotTaken(day) = not_taken;
                 self.day.put(day);
                 None
             }
@@ -119,29 +117,26 @@ impl Replay {
     fn print_sheet<W: Write>(&self, out: &mut W) -> anyhow::Result<()> {
         let mut text = [0u8; SHEET_ROOM];
         let length = put_sheet(&mut text, &self.memory.page);
-        print_text(out, &text[0..length])
+        Ok(out.write_all(&text[..length])?)
     }
 
     // The text of a statement, which stands at the front of the buffer.
     fn print_statement<W: Write>(&self, length: usize, out: &mut W) -> anyhow::Result<()> {
         let buffer = self.memory.buffer.as_slice();
-        print_text(out, &buffer[0..length.min(buffer.len())])
+        Ok(out.write_all(&buffer[..length.min(buffer.len())])?)
     }
 
     // Makes a call on the day and prints what it answered.
     fn step<W: Write>(&mut self, step: &Step<'_, Rule>, out: &mut W) -> anyhow::Result<()> {
         match self.call(step) {
-            None => print_text(out, b"NOT TAKEN\n"),
-            Some(Answer::Done) => match step {
+            None => Ok(out.write_all(b"NOT TAKEN\n")?),
+            Some(Ok(Outcome::Done)) => match step {
                 Step::Sheet { .. } => self.print_sheet(out),
-                _ => print_text(out, b"OK\n"),
+                _ => Ok(out.write_all(b"OK\n")?),
             },
-            Some(Answer::Added(count)) => {
-                writeln!(out, "OK {count}")?;
-                Ok(())
-            }
-            Some(Answer::Written(length)) => self.print_statement(length, out),
-            Some(Answer::Refused(fault)) => print_refused(out, &fault),
+            Some(Ok(Outcome::Added(count))) => Ok(writeln!(out, "OK {count}")?),
+            Some(Ok(Outcome::Written(length))) => self.print_statement(length, out),
+            Some(Err(fault)) => print_refused(out, &fault),
         }
     }
 
@@ -155,11 +150,11 @@ impl Replay {
         match command {
             Command::Ledger(entries) => {
                 self.sizes.ledger = *entries;
-                print_text(out, b"OK\n")
+                Ok(out.write_all(b"OK\n")?)
             }
             Command::Buffer(length) => {
                 self.sizes.buffer = *length;
-                print_text(out, b"OK\n")
+                Ok(out.write_all(b"OK\n")?)
             }
             Command::Open(_) => self.begin(&Begin::Open(bytes), out),
             Command::Load(_) | Command::LoadBytes(_) => self.begin(&Begin::Load(bytes), out),
@@ -174,12 +169,12 @@ impl Replay {
         words: &[&[u8]],
         out: &mut W,
     ) -> anyhow::Result<()> {
-        let Some(command) = command_of(words) else {
-            return print_text(out, b"NOT A CALL\n");
-        };
-        match bytes_for(rt, &command)? {
-            Some(bytes) => self.obey(&command, bytes.as_slice(), out),
-            None => print_text(out, b"NOT A CALL\n"),
+        if let Some(command) = command_of(words)
+            && let Some(bytes) = bytes_for(rt, &command)?
+        {
+            self.obey(&command, bytes.as_slice(), out)
+        } else {
+            Ok(out.write_all(b"NOT A CALL\n")?)
         }
     }
 

@@ -13,16 +13,15 @@ use Rattle.text.specs.Lines.{refused_text}
 use Rattle.text.specs.Written.{left_if_fits}
 use Rattle.day.specs.Calls.{Parts, load_answer}
 use Rattle.day.specs.Memory.{Memory}
-use Rattle.day.specs.declared.state.Closed as closed_state
-use Rattle.history.specs.Events.{Call, Event, Lent, answers_of, calls_of, issuing, lent_in, loading, reopening, settling, stating}
+use Rattle.day.specs.States as day_state
+use Rattle.history.specs.Events.{Answer, Call, Event, Lent, answers_of, calls_of, issuing, lent_in, loading, reopening, settling, stating}
 use Rattle.history.specs.Histories.{History, loads, next, opens}
 use Rattle.history.specs.Replays.{Ran, RanOn, RefusedAt, calls_in}
 use Rattle.history.specs.declared.states.Day.{Day}
-use Rattle.history.specs.declared.steps.Answer.{Answer}
-use Rattle.history.specs.declared.steps.Answer.TheVariants.{Added, Done, Refused, Written}
+use Rattle.history.specs.declared.steps.Outcome.TheVariants.{Added, Done, Written}
 use Rattle.history.specs.declared.steps.Begin.TheVariants.{Load}
 use Rattle.history.specs.declared.steps.NotBegun.{NotBegun}
-use Rattle.history.specs.declared.steps.NotBegun.TheVariants as not_begun
+use Rattle.history.specs.declared.steps.NotBegun.TheVariants.{Refused}
 use Rattle.history.specs.declared.steps.Step.{Step}
 use Rattle.history.specs.declared.steps.Step.TheVariants.{Issue, Settle, Statement}
 use Rattle.history.proofs.Outcomes.{ok_not_err}
@@ -37,11 +36,11 @@ pub record ComesTo (text buffer : List ℕ) (answers : List Answer) (left : List
   pub holds : answered_text (last_answer answers) left ≡ left_if_fits text buffer
   pub within : LineFits (last_answer answers) left → length text ≤ length buffer
 
-comes_to_line : (fault : Fault) (text buffer : List ℕ) (answers : List Answer) (left : List ℕ) → text ≡ refused_text fault → answers ≡ Refused fault ∷ [] → left ≡ buffer → ComesTo text buffer answers left
+comes_to_line : (fault : Fault) (text buffer : List ℕ) (answers : List Answer) (left : List ℕ) → text ≡ refused_text fault → answers ≡ Err fault ∷ [] → left ≡ buffer → ComesTo text buffer answers left
 comes_to_line fault text buffer answers left is answered same =
     rw (is, answered, same) (record { long = refl; holds = refl; within = λ fits. fits })
 
-comes_to_text : (text buffer : List ℕ) (count : ℕ) (answers : List Answer) (left : List ℕ) → length text ≤ length buffer → answers ≡ Done ∷ Added count ∷ Written (length text) ∷ [] → left ≡ text ++ drop (length text) buffer → ComesTo text buffer answers left
+comes_to_text : (text buffer : List ℕ) (count : ℕ) (answers : List Answer) (left : List ℕ) → length text ≤ length buffer → answers ≡ Ok Done ∷ Ok (Added count) ∷ Ok (Written (length text)) ∷ [] → left ≡ text ++ drop (length text) buffer → ComesTo text buffer answers left
 comes_to_text text buffer count answers left fits answered is =
     rw (answered, is)
     (record {
@@ -59,9 +58,9 @@ loaded_whole file entries (loads m n old d r q whole) e =
 loaded_whole file entries (next {events} h s) e = loaded_whole file entries h (sym (get_or_append_left (calls_of events) _ reopening 0 (some_call h)) ∙ e)
 
 abbrev Loading : Type 0
-Loading = Result closed_state.Closed Fault × Memory
+Loading = Result day_state.Closed Fault × Memory
 
-not_loaded : (o : Result Records Fault) (fault : Fault) → ◌≡◌ {A = Result closed_state.Closed Fault} (Err fault) (load_answer o) → o ≡ Err fault
+not_loaded : (o : Result Records Fault) (fault : Fault) → ◌≡◌ {A = Result day_state.Closed Fault} (Err fault) (load_answer o) → o ≡ Err fault
 not_loaded (Ok r) fault e = ok_not_err (sym e)
 not_loaded (Err f) fault e = cc
 
@@ -73,10 +72,10 @@ parts rule = running
 refused_load : (file : Bor (List ℕ)) (m n : Memory) (fault : Fault) → RefusedAt (Load file) m fault n → printed_text file.now ≡ refused_text fault
 refused_load file m n fault q = ap loaded_text (not_loaded (file_records file.now) fault (ap (λ (z : Loading). z.0) q))
 
-pub run_refused : (steps : List (Step Running)) (file : Bor (List ℕ)) (m n : Memory) (before after : Lent) (why : NotBegun) (fault : Fault) → why ≡ not_begun.Refused fault
+pub run_refused : (steps : List (Step Running)) (file : Bor (List ℕ)) (m n : Memory) (before after : Lent) (why : NotBegun) (fault : Fault) → why ≡ Refused fault
     → Ran parts (Load file) steps m before (Err why) n after → (printed_text file.now ≡ refused_text fault) × (after.buffer ≡ before.buffer)
 run_refused steps file m n before after why fault is ran =
-    let so : Ran parts (Load file) steps m before (Err (not_begun.Refused fault)) n after = subst (λ (w : NotBegun). Ran parts (Load file) steps m before (Err w) n after) is ran in
+    let so : Ran parts (Load file) steps m before (Err (Refused fault)) n after = subst (λ (w : NotBegun). Ran parts (Load file) steps m before (Err w) n after) is ran in
     (refused_load file m n fault so.0, ap (λ (l : Lent). l.buffer) so.1)
 
 module _ (rule : Bor Running) (steps : List (Step Running)) (are : steps ≡ Settle rule ∷ Issue ∷ Statement 0 ∷ [])
@@ -97,7 +96,7 @@ module _ (rule : Bor Running) (steps : List (Step Running)) (are : steps ≡ Set
         (ap (λ cs. cs ++ left) ran.history.made
         ∙ ap (λ cs. loading file.now (length m.ledger) ∷ cs) (all_calls parts (length before.buffer) steps (length answers) ∙ calls_are))
 
-    answered : {events : List Event} → events ≡ ran.history.events → answers_of events ≡ Done ∷ answers
+    answered : {events : List Event} → events ≡ ran.history.events → answers_of events ≡ Ok Done ∷ answers
     answered e = ap answers_of e ∙ ran.history.answered
 
     buffer_is : {events : List Event} → events ≡ ran.history.events → after.buffer ≡ (lent_in events before).buffer

@@ -22,10 +22,9 @@ use Rattle.statement.proofs.Room.{fits_in}
 use Rattle.text.specs.Written.{left_if_fits, length_if_fits}
 use Rattle.day.specs.Calls.{fault_in, first_numbers, given, issue_gives, load_answer, load_gives, notes_in, notes_to_add, settle_gives, statement_gives, statement_refusal, with_notes}
 use Rattle.day.specs.Memory.{Memory, begun_with, memory, sound_memory}
+use Rattle.day.specs.States as day_state
+use Rattle.day.specs.States.{day_with}
 use Rattle.day.specs.Tables.{table_of}
-use Rattle.day.specs.declared.state.Closed as closed_state
-use Rattle.day.specs.declared.state.Issued as issued_state
-use Rattle.day.specs.declared.state.Settled as settled_state
 use Rattle.day.proofs.Beginning.{left_by_load}
 use Rattle.history.specs.Events.{issued, loaded, refused, settled, settling, stated}
 use Rattle.history.specs.Histories.{History, added_notes, issues, loads, next, settles, settles_not, states}
@@ -47,8 +46,8 @@ clear_of (Some n) f e = refl
 module _ (m : Memory) (file : List ℕ) (r : Records) (whole : file_records file ≡ Ok r) where
   -- load
 
-  abbrev pub closed_day : closed_state.Closed
-  closed_day = record { numbers = first_numbers r }
+  abbrev pub closed_day : day_state.Closed
+  closed_day = day_with (first_numbers r)
 
   abbrev pub begun : Memory
   begun = begun_with r m.ledger
@@ -64,8 +63,8 @@ module _ (m : Memory) (file : List ℕ) (r : Records) (whole : file_records file
 
   -- settle
 
-  abbrev pub settled_day : settled_state.Settled
-  settled_day = record { numbers = first_numbers r }
+  abbrev pub settled_day : day_state.Settled
+  settled_day = day_with (first_numbers r)
 
   abbrev pub filled : Memory
   filled = memory r (table_of (day_cell running r)) (cleared m.ledger)
@@ -99,8 +98,8 @@ module _ (m : Memory) (file : List ℕ) (r : Records) (whole : file_records file
     fits : 0 + length new ≤ length (cleared m.ledger)
     fits = omega (arith, few, length-replicate (length m.ledger) no_note)
 
-    abbrev pub issued_day : issued_state.Issued
-    issued_day = record { numbers = with_notes (first_numbers r) (length new) }
+    abbrev pub issued_day : day_state.Issued
+    issued_day = day_with (with_notes (first_numbers r) (length new))
 
     abbrev pub noted : Memory
     noted = memory r filled.table (issue_leaves (cleared m.ledger) 0 new)

@@ -12,7 +12,7 @@ use codes::table::Table;
 use day_text::print::{LEDGER_ROOM, TEXT_ROOM, put_fault};
 use faults::fault::Fault;
 use history::replay::replay;
-use history::steps::{Answer, Begin, NotBegun, Replay, Step};
+use history::steps::{Answer, Begin, NotBegun, Outcome, Replay, Step};
 use ledger::note::Note;
 use sharing::running::Running;
 use std::alloc::{AllocError, Global};
@@ -25,22 +25,22 @@ fn put_answer(buffer: &mut [u8], answer: &Answer) -> usize
     ensures fits { LineFits answer.now buffer.old }
 {
     match answer {
-        Answer::Refused(fault) => put_fault(buffer, fault),
-        Answer::Written(length) => *length,
-        Answer::Added(_) => 0,
-        Answer::Done => 0,
+        Err(fault) => put_fault(buffer, fault),
+        Ok(Outcome::Written(length)) => *length,
+        Ok(Outcome::Added(_) | Outcome::Done) => 0,
     }
 }
 
 // The same for the last of the answers.
-fn put_last(buffer: &mut [u8], mut answers: Vec<Answer>) -> usize
+fn put_last(buffer: &mut [u8], answers: &[Answer]) -> usize
     requires { refused_room ≤ length buffer.old }
-    ensures length { result ≡ answered_length (last_answer answers.items) }
-    ensures after { buffer.new ≡ answered_text (last_answer answers.items) buffer.old }
-    ensures fits { LineFits (last_answer answers.items) buffer.old }
+    ensures length { result ≡ answered_length (last_answer answers.now) }
+    ensures after { buffer.new ≡ answered_text (last_answer answers.now) buffer.old }
+    ensures fits { LineFits (last_answer answers.now) buffer.old }
 {
-    match answers.pop() {
-        Some(answer) => put_answer(buffer, &answer),
+    // Tried: `map_or`. No proof follows what its closure writes into the buffer.
+    match answers.last() {
+        Some(answer) => put_answer(buffer, answer),
         None => 0,
     }
 }
@@ -61,10 +61,11 @@ fn put_end(buffer: &mut [u8], end: Replay) -> usize
 {
     let Replay { day, answers } = end;
     let _ = day.into_numbers();
-    put_last(buffer, answers)
+    put_last(buffer, &answers)
 }
 
-// The whole run, with room enough by what is lent.
+// The whole run. Slices are lent here and above, as a proof knows an array's length only as a slice's; the room that is asked
+// is what the arrays of `print_replayed_day` have.
 fn put_replayed(
     heap: Global,
     book: &mut Book,
@@ -92,10 +93,8 @@ fn put_replayed(
         buffer,
     ) {
         Ok(end) => Ok(put_end(buffer, end)),
-        Err(why) => match why {
-            NotBegun::Refused(fault) => Ok(put_fault(buffer, &fault)),
-            NotBegun::NoMemory(e) => Err(e),
-        },
+        Err(NotBegun::Refused(fault)) => Ok(put_fault(buffer, &fault)),
+        Err(NotBegun::NoMemory(e)) => Err(e),
     }
 }
 

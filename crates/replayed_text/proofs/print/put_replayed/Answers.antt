@@ -19,12 +19,12 @@ returns-in-Ok c =
       within = omega (arith, c.put_end.ensures.length, ends.long, ends.within c.put_end.ensures.fits);
     }
 
-pub returns-in-Refused : goal.returns-in-Refused
-returns-in-Refused c =
-    let fault = c.in-Refused.fault in
+pub returns-in-Err-Refused : goal.returns-in-Err-Refused
+returns-in-Err-Refused c =
+    let fault = c.in-Err-Refused.fault in
     let before = memory (held c.args.book.now) c.args.table.now c.args.ledger.now in
     let after = memory (held c.replay.new.book) c.replay.new.table c.replay.new.ledger in
-    let run = run_refused c.first_issue-steps.result c.args.file before after (lent c.args.page.now c.args.buffer.now) (lent c.replay.new.page c.replay.new.buffer) c.in-Err.why fault c.in-Refused.is c.in-Err.ensures.run in
+    let run = run_refused c.first_issue-steps.result c.args.file before after (lent c.args.page.now c.args.buffer.now) (lent c.replay.new.page c.replay.new.buffer) c.in-Err-Refused.field-0 fault c.in-Err-Refused.field-0-is c.in-Err-Refused.ensures.run in
     record {
       answer = c.put_fault.ensures.answer ∙ ap length (sym run.0);
       after = c.put_fault.ensures.after ∙ ap (left_if_fits (refused_text fault)) run.1 ∙ ap (λ t. left_if_fits t c.args.buffer.now) (sym run.0);
