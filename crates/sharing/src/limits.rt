@@ -35,7 +35,11 @@ fn limited_sum(weights: &[u64]) -> Option<u64>
 pub fn total_weight(amount: u64, weights: &[u64], places: usize) -> Result<u64, Fault>
     ensures { result ≡ total_answer amount weights.now places }
 {
+    // First what needs no pass over the weights: a list that is too long is refused without reading it.
+    if !is_within(amount, weights.len(), places) {
+        return Err(Fault::plain(Refusal::NotShareable));
+    }
     limited_sum(weights)
-        .filter(|total| is_within(amount, weights.len(), places) && (*total > 0 || amount == 0))
+        .filter(|total| *total > 0 || amount == 0)
         .ok_or(Fault::plain(Refusal::NotShareable))
 }
