@@ -21,5 +21,11 @@ pub fn digit_value(byte: u8) -> u8
 pub fn are_digits(word: &[u8], base: u8) -> bool
     ensures { result ≡ in_digits base word.now }
 {
-    word.iter().all(|byte| digit_value(*byte) < base)
+    // Tried as a chain with `all`: it proves, and takes twice as long.
+    for byte in word {
+        if digit_value(*byte) >= base {
+            return false;
+        }
+    }
+    true
 }

@@ -23,7 +23,3 @@ returns-in-correct c = spelt (codes "correct") c.args.word.now (omega arith) (se
 
 pub returns-in-statement : goal.returns-in-statement
 returns-in-statement c = spelt (codes "statement") c.args.word.now (omega arith) (search rules)
-
--- load-bytes
-pub returns-in-108 : goal.returns-in-108
-returns-in-108 c = spelt (codes "load-bytes") c.args.word.now (omega arith) (search rules)
