@@ -28,6 +28,7 @@ pub const PARTIES: [u8; PARTY_COUNT] = [
 ];
 
 // The number of the party at a place of that order, if there is one: for callers, as the counterpart of `party_place`.
+#[tactic(auto, using(crate::proofs::Places::slice_get_from_item))]
 pub fn party_at(place: usize) -> Option<u8>
     ensures { result ≡ party_at place }
 {
@@ -39,8 +40,11 @@ pub fn party_place(party: u8) -> Option<usize>
     ensures value { result ≡ party_place party }
     ensures within { IfSome result (λ i. i < party_count) }
 {
+    // Accounts first, since nearly every party is one: a match alone is compiled to ask for the funds first.
+    if (1..=LAST_ACCOUNT).contains(&party) {
+        return Some(usize::from(party) - 1);
+    }
     match party {
-        1..=LAST_ACCOUNT => Some(usize::from(party) - 1),
         FIRST_SYSTEM..=LAST_SYSTEM => Some(ACCOUNTS + usize::from(party - FIRST_SYSTEM)),
         WORKING_CAPITAL_FUND => Some(ACCOUNTS + SYSTEMS),
         UNIVERSAL_SERVICE_FUND => Some(ACCOUNTS + SYSTEMS + 1),

@@ -6,7 +6,6 @@ use crate::note::{AMOUNT_LIMIT, Note};
 use codes::code::Code;
 use codes::party::party_place;
 use codes::table::Table;
-use std::iter;
 
 fn amount_within(amount: i64) -> bool
     ensures { result ≡ within amount }
@@ -37,10 +36,15 @@ fn is_next(note: &Note, last: &Note, issues: u8) -> bool
 fn are_sound_notes(notes: &[Note], issues: u8) -> bool
     ensures { result ≡ sound_list issues notes.now }
 {
-    iter::once(Note::none())
-        .chain(notes.iter().copied())
-        .zip(notes)
-        .all(|(last, note)| is_next(note, &last, issues))
+    // Tried as a chain of each note beside the one before it: it proves, and takes half as long again.
+    let mut last = Note::none();
+    for note in notes {
+        if !is_next(note, &last, issues) {
+            return false;
+        }
+        last = *note;
+    }
+    true
 }
 
 // Are the first entries of the ledger, as many as `notes`, sound notes of the first `issues` issues? Ledger and counts come

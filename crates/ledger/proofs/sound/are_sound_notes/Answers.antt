@@ -1,16 +1,21 @@
-use Rattle.std.proofs.Common.{◌∙◌, Some, rules, tests}
-use Rattle.std.proofs.lemmas.Iterator.{YieldsList-from_slice, YieldsList-from_zip}
-use Rattle.std.proofs.lemmas.Iterator.Adapters.{YieldsList-from_once}
-use Rattle.std.proofs.lemmas.Iterator.Consumers.{YieldsList-from_chain, YieldsList-from_copied}
-use Rattle.std.proofs.lemmas.Iterator.Search.{all_from_yields_List}
-use Rattle.ledger.specs.Notes.{no_note, sound_next}
-use Rattle.ledger.proofs.Soundness.{sound_pairs}
+use Rattle.std.proofs.Common.{sym, ap, ◌∙◌, arith}
+use Rattle.std.proofs.lemmas.Bool.{and_left}
+use Rattle.ledger.specs.Notes.{sound_after}
+use Rattle.ledger.proofs.Soundness.{past, sound_all, sound_more}
 use Rattle.ledger.proofs.sound.are_sound_notes.Goals as goal
 
+pub loop-note-init : goal.loop-note-init
+loop-note-init c = sym (ap (λ y. sound_after c.args.issues y c.args.notes.now) c.none-last.ensures)
+
+pub returns-then-not-is_next : goal.returns-then-not-is_next
+returns-then-not-is_next c =
+    sym (c.loop-note.invariant ∙ sound_more c.args.issues c.loop-note.last c.args.notes.now c.loop-note.note-index c.loop-note-test.true
+    ∙ and_left _ _ (sym c.if-not-is_next.ensures))
+
+pub loop-note-preserved : goal.loop-note-preserved
+loop-note-preserved c =
+    c.loop-note.invariant ∙ sound_more c.args.issues c.loop-note.last c.args.notes.now c.loop-note.note-index c.loop-note-test.true
+    ∙ past _ _ (sym c.if-not-is_next.ensures)
+
 pub returns : goal.returns
-returns c =
-    let notes = c.args.notes.now in
-    all_from_yields_List (λ p. sound_next c.args.issues p.0 p.1) c.all.new.self _ _ c.all.ensures.ran
-    (YieldsList-from_zip (YieldsList-from_chain (YieldsList-from_once (Some no_note) (cc)) (YieldsList-from_copied (YieldsList-from_slice notes (cc))) (cc) (cc)) (YieldsList-from_slice notes (cc)))
-    (λ x b q k. search (rules, tests))
-    ∙ sound_pairs c.args.issues no_note notes
+returns c = sym (c.loop-note.invariant ∙ sound_all c.args.issues c.loop-note.last c.args.notes.now c.loop-note.note-index (omega arith))
