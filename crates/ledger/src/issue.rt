@@ -1,5 +1,5 @@
 // What an issue adds to the ledger.
-ghost use Rattle.std.specs.Prelude.{count_by, sum_by, ◌≡◌, ℕ, ◌*◌, ◌≤◌, true, length, ◌-ℤ◌, unsigned_abs};
+ghost use Rattle.std.specs.Prelude.{count_by, sum_by, ◌≡◌, ℕ, ◌+◌, ◌*◌, ◌≤◌, true, length, ◌-ℤ◌, nat_le, unsigned_abs};
 ghost use Rattle.std.specs.List.{flat_map};
 ghost use Rattle.codes.specs.Cells.{cell};
 ghost use Rattle.codes.specs.declared.code.Code.{Code};
@@ -138,6 +138,14 @@ fn put_notes(out: &mut Writer<'_, Note>, issue: u8, rest: &Table)
     put_rows(out, issue, rest, &CODES);
 }
 
+// Is there room for so many entries behind the first `notes`?
+fn has_room(ledger: &[Note], notes: usize, added: usize) -> bool
+    requires { notes ≤ length ledger.now }
+    ensures { result ≡ nat_le (notes + added) (length ledger.now) }
+{
+    added <= ledger.len() - notes
+}
+
 // A note for each cell of `rest` that is not 0, behind the first entries of the ledger, if there is room for all of them.
 fn add_notes(ledger: &mut [Note], notes: usize, issue: u8, rest: &Table) -> Result<usize, Fault>
     requires { notes ≤ length ledger.old }
@@ -145,7 +153,7 @@ fn add_notes(ledger: &mut [Note], notes: usize, issue: u8, rest: &Table) -> Resu
     ensures after { ledger.new ≡ issue_leaves ledger.old notes (notes_of issue (cell rest.now)) }
 {
     let added = count_notes(rest);
-    if added > ledger.len() - notes {
+    if !has_room(ledger, notes, added) {
         return Err(Fault::plain(Refusal::LedgerFull));
     }
     let mut out = Writer {
